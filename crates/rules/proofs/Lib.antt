@@ -1,0 +1,15 @@
+pub mod BitLaws
+pub mod WordLaws
+pub mod SizeLaws
+pub mod ImageLaws
+pub mod MemoryLaws
+pub mod WalkLaws
+pub mod Alike
+pub mod Grown
+pub mod SlotLaws
+pub mod AnswerLaws
+pub mod CallLaws
+pub mod Cases
+pub mod TrialGuest
+pub mod TrialCases
+pub mod OwnCases

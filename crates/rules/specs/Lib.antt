@@ -1,0 +1,10 @@
+pub mod Bits
+pub mod Sizes
+pub mod Image
+pub mod Memory
+pub mod Entries
+pub mod Walk
+pub mod Buffer
+pub mod Answers
+pub mod Refusals
+pub mod Calls
