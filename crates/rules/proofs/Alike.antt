@@ -1,25 +1,19 @@
 -- Two walks of one address over entries that are alike end alike. "Alike" is any relation on entries that keeps what the walk goes by, with one
 -- on rights that it hands down; only the entries that the first walk reads have to be alike.
 -- So the walk is blind to bits 5 and 6, but for the page's dirty flag; and walking leaves every entry as it was but for those bits.
-use Prim.Native.Nat.{ℕ, zero, suc, _+_, _*_, _/_, _%_, _^_, _≤_, _<_}
-use mathlib.Core.Path.{_≡_, refl, ap, ap₂, sym, _∙_, subst}
-use mathlib.Core.Bool.{Bool, true, false, cond, _&&_, _||_, not}
+use Prim.Native.Nat.{ℕ, zero, suc, _+_, _/_, _%_, _^_, _≤_, _<_}
+use mathlib.Core.Path.{_≡_, refl, ap, sym, _∙_, subst}
+use mathlib.Core.Bool.{not}
 use mathlib.Core.List.{List, [], _∷_}
 use native.Mathlib.Omega.{arith}
-use native.Mathlib.Decide.{ℕ-discrete}
 use lib.Dec.{eqb}
-use lib.Pow.{mod-mod-pow}
-use Rattle.rules.specs.Bits.{bit, isOn, part, anyOn, withBit}
+use Rattle.rules.specs.Bits.{isOn, part, anyOn}
 use Rattle.rules.specs.Sizes.{shift}
-use Rattle.rules.specs.Memory.{Memory, entryAt, added}
-use Rattle.rules.specs.Entries.{Entry, absent, bad, page, table, sorted, says, isPage, isReserved, next, also, allows, everything}
-use Rattle.rules.specs.Walk.{top, index, place, Leaf, leafOf, End, reached, stuck, Reach, step, reach, accessed, dirtied, marked, reachIn, walk}
+use Rattle.rules.specs.Entries.{Entry, absent, bad, page, table, says, next, also}
+use Rattle.rules.specs.Walk.{place, Leaf, End, reached, stuck, Reach, step, reach}
 use Rattle.rules.specs.declared.Control.{Control}
-use Rattle.rules.specs.declared.Access.{Access}
 use Rattle.rules.specs.declared.Rights.{Rights}
-use Rattle.rules.specs.declared.Cause.{Cause}
-use Rattle.rules.proofs.BitLaws.{above, bit-low, bit-high, part-high, set-above, set-below}
-use Rattle.rules.proofs.MemoryLaws.{same-entry, other-entry}
+use Rattle.rules.proofs.BitLaws.{bit-low, bit-high, part-high}
 
 -- ---- what a relation on entries, and one on rights, has to keep
 pub record Keeps (c : Control) (R : ℕ → ℕ → Type 0) (Q : Rights → Rights → Type 0) : Type 0 where

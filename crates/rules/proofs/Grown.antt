@@ -1,7 +1,7 @@
 -- A walk only adds bits 5 and 6 to entries of memory, so memory after it holds every entry as it was but for those bits, and any walk made
 -- again ends alike. Entries stand at multiples of 8, so that two of them are one or share no byte.
 use Prim.Native.Nat.{ℕ, zero, suc, _+_, _-_, _*_, _/_, _%_, _^_, _≤_, _<_}
-use mathlib.Core.Path.{_≡_, refl, ap, sym, _∙_, subst}
+use mathlib.Core.Path.{_≡_, refl, ap, sym, _∙_}
 use mathlib.Core.Bool.{Bool, true, false, cond}
 use mathlib.Core.List.{List, [], _∷_}
 use native.Mathlib.Omega.{arith}

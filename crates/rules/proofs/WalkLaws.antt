@@ -1,8 +1,8 @@
 -- What holds of every walk, by one induction over the level: the count is the number of addresses read; where a walk ends; what it writes.
-use Prim.Native.Nat.{ℕ, zero, suc, _+_, _*_, _≤_, _<_}
-use mathlib.Core.Path.{_≡_, refl, ap, sym, _∙_}
+use Prim.Native.Nat.{ℕ, zero, suc, _+_, _≤_}
+use mathlib.Core.Path.{_≡_, refl, ap, _∙_}
 use mathlib.Core.Bool.{Bool, true, false, cond, _&&_, _||_}
-use mathlib.Core.List.{List, [], _∷_}
+use mathlib.Core.List.{List}
 use native.Mathlib.Omega.{arith}
 use native.Mathlib.Numerals.{one-add}
 use lib.ListN.{length}
@@ -11,11 +11,10 @@ use borrow.Author.Tests.{eqb-true, leb-true}
 use Rattle.rules.specs.Bits.{isOn}
 use Rattle.rules.specs.Memory.{Memory}
 use Rattle.rules.specs.Entries.{Entry, absent, bad, page, table, sorted, says, isPage, isReserved, next, also, allows}
-use Rattle.rules.specs.Walk.{place, Leaf, End, reached, stuck, Reach, step, reach, pageIf, judged, marked, accessed, dirtied}
+use Rattle.rules.specs.Walk.{place, End, reached, stuck, Reach, step, reach, pageIf, judged, marked, accessed, dirtied}
 use Rattle.rules.specs.declared.Control.{Control}
 use Rattle.rules.specs.declared.Access.{Access}
 use Rattle.rules.specs.declared.Rights.{Rights}
-use Rattle.rules.specs.declared.Cause.{Cause}
 use Rattle.rules.specs.declared.Found.{Found}
 use Rattle.rules.specs.declared.Found.the-variants.{Page, Fault}
 

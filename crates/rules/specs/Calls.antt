@@ -1,6 +1,6 @@
 -- The calls: what each leaves, for all inputs, refused ones too.
 use Prim.Native.Nat.{ℕ, zero, suc, _%_, _^_}
-use mathlib.Core.Bool.{Bool, true, false, cond, _&&_, _||_, not}
+use mathlib.Core.Bool.{Bool, true, false, cond, _&&_, not}
 use mathlib.Core.List.{List}
 use lib.ListN.{length}
 use lib.Dec.{leb, eqb}
@@ -14,7 +14,7 @@ use Rattle.rules.specs.Answers.{answerOf, numbers, recordBytes, returned
 use Rattle.rules.specs.Refusals.{Request, start, translate, invlpg, invpcid, writeCr3, writeMode, canonical, refusal}
 use Rattle.rules.specs.declared.Access.{Access}
 use Rattle.rules.specs.declared.Answer.{Answer}
-use Rattle.rules.specs.declared.Answer.the-variants.{Address, PageFault, Refused, Done}
+use Rattle.rules.specs.declared.Answer.the-variants.{Address, Refused, Done}
 
 -- what an accepted call leaves: the answer, the image and guest memory
 pub record After : Type 0 where

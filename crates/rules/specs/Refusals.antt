@@ -1,7 +1,7 @@
 -- Refusals: the table of document 01, a list for each call in rising order, of which the lowest that applies is given.
 -- Number 1 is the door's, where the answer bytes are: `Calls`.
-use Prim.Native.Nat.{ℕ, _+_, _-_, _*_, _/_, _%_, _^_}
-use mathlib.Core.Bool.{Bool, true, false, cond, _&&_, _||_, not}
+use Prim.Native.Nat.{ℕ, _-_, _^_}
+use mathlib.Core.Bool.{Bool, true, cond, _&&_, _||_, not}
 use mathlib.Core.List.{List, [], _∷_}
 use lib.ListN.{length, drop}
 use lib.Dec.{leb, ltb, eqb}

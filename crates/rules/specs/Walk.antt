@@ -1,5 +1,5 @@
 -- The walk: "The walk" of document 01. First which page an address reaches, whoever asks; then whether this access may use it.
-use Prim.Native.Nat.{ℕ, zero, suc, _+_, _*_, _/_, _%_, _^_}
+use Prim.Native.Nat.{ℕ, zero, suc, _+_, _*_}
 use mathlib.Core.Bool.{Bool, true, false, cond, _||_}
 use mathlib.Core.List.{List, [], _∷_}
 use Rattle.rules.specs.Bits.{isOn, part, field}
