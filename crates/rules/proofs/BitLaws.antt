@@ -1,17 +1,18 @@
 -- What setting bit k of a number does to its bits and parts, for every k.
 -- With q = x / 2 ^ k, setting bit k adds (1 - q % 2) * 2 ^ k to x: a multiple of 2 ^ k, so nothing below bit k changes, and q becomes
 -- q + (1 - q % 2), which is odd and has the half of q, so bit k is set and nothing above it changes.
-use Prim.Native.Nat.{ℕ, suc, _+_, _-_, _*_, _/_, _%_, _^_, _≤_, _<_}
-use mathlib.Core.Path.{_≡_, ap, sym, _∙_}
+use Prim.Native.Nat.{ℕ, zero, suc, _+_, _-_, _*_, _/_, _%_, _^_, _≤_, _<_}
+use mathlib.Core.Path.{_≡_, refl, ap, sym, _∙_}
 use mathlib.Core.Logic.{_≢_}
-use mathlib.Core.Bool.{true}
+use mathlib.Core.Bool.{Bool, true, false}
 use native.Mathlib.Omega.{arith}
 use native.Mathlib.Numerals.{add-one}
 use native.Mathlib.Nat.{mod-lt, mul-mod-left, div-eq-of-lt, div-lt-iff-lt-mul, add-mul-div-right, add-mul-mod-self-right}
 use native.Mathlib.Decide.{ℕ-discrete, decLt}
 use lib.Pow.{pow-pos, shl-lt, shr-shr, field, mod-mod-pow}
+use lib.Dec.{eqb}
 use borrow.Author.Tests.{eqb-true, eq-eqb}
-use Rattle.rules.specs.Bits.{bit, isOn, part, withBit}
+use Rattle.rules.specs.Bits.{bit, isOn, part, withBit, one}
 
 -- ---- what a bit and a part depend on
 pub bit-low : (j k x y : ℕ) → j < k → x % 2 ^ k ≡ y % 2 ^ k → bit j x ≡ bit j y
@@ -59,6 +60,14 @@ set-other j k x h = go (decLt j k)
     go (yes l) = bit-low j k _ _ l (set-below k x)
     go (no g) = bit-high (suc k) j _ _ (omega arith) (set-above k x)
 
+-- a bit that is set stays set, whichever is set besides
+pub set-keeps : (j k x : ℕ) → isOn k x ≡ true → isOn k (withBit j x) ≡ true
+set-keeps j k x h = go (ℕ-discrete k j)
+  where
+    go : Dec (k ≡ j) → isOn k (withBit j x) ≡ true
+    go (yes e) = rw e (set-on j x)
+    go (no n) = rw (set-other k j x n) h
+
 pub on-stays : (k x : ℕ) → isOn k x ≡ true → withBit k x ≡ x
 on-stays k x h = rw (eqb-true (bit k x) 1 h) (omega arith)
 
@@ -71,6 +80,23 @@ set-order j k x = go (ℕ-discrete j k)
     go : Dec (j ≡ k) → withBit j (withBit k x) ≡ withBit k (withBit j x)
     go (yes e) = rw e
     go (no h) = rw (set-other j k x h, set-other k j x (λ (e : k ≡ j). h (sym e))) (omega arith)
+
+-- ---- a flag as a bit, and back
+pub one-le : (b : Bool) → one b ≤ 1
+one-le true = omega arith
+one-le false = omega arith
+
+pub flag-back : (b : Bool) (x : ℕ) → x ≡ one b → eqb x 1 ≡ b
+flag-back true x e = rw e
+flag-back false x e = rw e
+
+pub odd-one : (p : ℕ) → p < 2 → p ≡ one (eqb p 1)
+odd-one zero h = refl
+odd-one (suc zero) h = refl
+odd-one (suc (suc p)) h = absurd (omega arith)
+
+pub on-one : (k x : ℕ) → bit k x ≡ one (isOn k x)
+on-one k x = odd-one (bit k x) (omega arith)
 
 -- ---- bounds
 pub set-lt : (k n x : ℕ) → k < n → x < 2 ^ n → withBit k x < 2 ^ n

@@ -1,5 +1,5 @@
--- A walk only adds bits 5 and 6 to entries of memory, so memory after it holds every entry as it was but for those bits, and any walk made
--- again ends alike. Entries stand at multiples of 8, so that two of them are one or share no byte.
+-- A walk only adds bits 5 and 6 to entries of memory, so memory after it holds every entry as it was but for those bits, none of them taken
+-- away, and any walk made again ends alike. Entries stand at multiples of 8, so that two of them are one or share no byte.
 use Prim.Native.Nat.{ℕ, zero, suc, _+_, _-_, _*_, _/_, _%_, _^_, _≤_, _<_}
 use mathlib.Core.Path.{_≡_, refl, ap, sym, _∙_}
 use mathlib.Core.Bool.{Bool, true, false, cond}
@@ -8,14 +8,14 @@ use native.Mathlib.Omega.{arith}
 use native.Mathlib.Decide.{ℕ-discrete}
 use lib.ListN.{length}
 use lib.Pow.{mod-mod-pow}
-use Rattle.rules.specs.Bits.{part, withBit}
+use Rattle.rules.specs.Bits.{isOn, part, withBit}
 use Rattle.rules.specs.Memory.{Memory, entryAt, added}
 use Rattle.rules.specs.Entries.{Entry, absent, bad, page, table, says, next, also, allows, everything}
 use Rattle.rules.specs.Walk.{top, index, place, End, reached, stuck, Reach, step, reach, accessed, dirtied, marked, reachIn, walk}
 use Rattle.rules.specs.declared.Control.{Control}
 use Rattle.rules.specs.declared.Access.{Access}
 use Rattle.rules.specs.declared.Rights.{Rights}
-use Rattle.rules.proofs.BitLaws.{above, set-above, set-below, part-multiple}
+use Rattle.rules.proofs.BitLaws.{above, set-above, set-below, set-keeps, part-multiple}
 use Rattle.rules.proofs.MemoryLaws.{added-length, same-entry, other-entry}
 use Rattle.rules.proofs.Alike.{AllOf, Alike, reach-alike, ButMarks, blind}
 
@@ -67,32 +67,43 @@ set-marks k x h g =
         let q : k - 5 + 5 ≡ k = omega arith in
         rw q at (mod-mod-pow z (k - 5) 5)
 
--- ---- memory that holds every entry as it was but for bits 5 and 6
+-- ---- memory that holds every entry as it was but for bits 5 and 6 added
 pub record Grown (mem mem′ : Memory) : Type 0 where
   pub size : length mem ≡ length mem′
   pub entries : (at : ℕ) → Eight at → ButMarks (entryAt mem at) (entryAt mem′ at)
+  pub stays : (k at : ℕ) → Eight at → isOn k (entryAt mem at) ≡ true → isOn k (entryAt mem′ at) ≡ true
 
 pub grown-none : (mem : Memory) → Grown mem mem
-grown-none mem = record { size = refl; entries = λ at h. record { high = refl; low = refl } }
+grown-none mem = record { size = refl; entries = λ at h. record { high = refl; low = refl }; stays = λ k at h on. on }
 
 pub grown-on : (m₁ m₂ m₃ : Memory) → Grown m₁ m₂ → Grown m₂ m₃ → Grown m₁ m₃
 grown-on m₁ m₂ m₃ g h =
     record {
       size = g .size ∙ h .size;
       entries = λ at e. record { high = g .entries at e .high ∙ h .entries at e .high; low = g .entries at e .low ∙ h .entries at e .low };
+      stays = λ k at e on. h .stays k at e (g .stays k at e on);
     }
 
 eight-is : (x : ℕ) → Eight x → x ≡ 8 * (x / 8)
 eight-is x h = omega arith
 
 pub grown-added : (k a : ℕ) (mem : Memory) → 5 ≤ k → k < 7 → Eight a → Grown mem (added k a mem)
-grown-added k a mem h g ea = record { size = sym (added-length k a mem); entries = λ at e. go at e (ℕ-discrete a at) }
+grown-added k a mem h g ea =
+    record {
+      size = sym (added-length k a mem);
+      entries = λ at e. go at e (λ x. ButMarks (entryAt mem at) x) (λ q. rw (← q) (set-marks k (entryAt mem a) h g)) (record { high = refl; low = refl });
+      stays = λ j at e on. go at e (λ x. isOn j x ≡ true) (λ q. set-keeps k j (entryAt mem a) (rw q on)) on;
+    }
   where
-    go : (at : ℕ) → Eight at → Dec (a ≡ at) → ButMarks (entryAt mem at) (entryAt (added k a mem) at)
-    go at e (yes q) = rw (← q, same-entry k a mem (omega arith)) (set-marks k (entryAt mem a) h g)
-    go at e (no n) =
-        let o : entryAt (added k (8 * (a / 8)) mem) (8 * (at / 8)) ≡ entryAt mem (8 * (at / 8)) = other-entry k (a / 8) (at / 8) mem (λ q. n (omega arith)) in
-        rw (rw (← eight-is a ea, ← eight-is at e) at o) (record { high = refl; low = refl })
+    -- an entry after it is the one with the bit set, or as it was
+    go : (at : ℕ) → Eight at → (P : ℕ → Type 0) → (a ≡ at → P (withBit k (entryAt mem a))) → P (entryAt mem at) → P (entryAt (added k a mem) at)
+    go at e P f p = by (ℕ-discrete a at)
+      where
+        by : Dec (a ≡ at) → P (entryAt (added k a mem) at)
+        by (yes q) = rw (← q, same-entry k a mem (omega arith)) (f q)
+        by (no n) =
+            let o : entryAt (added k (8 * (a / 8)) mem) (8 * (at / 8)) ≡ entryAt mem (8 * (at / 8)) = other-entry k (a / 8) (at / 8) mem (λ q. n (omega arith)) in
+            rw (rw (← eight-is a ea, ← eight-is at e) at o) p
 
 -- ---- what a walk writes
 module _ (mem : Memory) where
@@ -101,11 +112,11 @@ module _ (mem : Memory) where
   grown-accessed (at ∷ path) mem′ h g =
       grown-on mem (accessed path mem′) _ (grown-accessed path mem′ (h .1) g) (grown-added 5 at (accessed path mem′) (omega arith) (omega arith) (h .0))
 
-  grown-dirtied : (b : Bool) (at : ℕ) → Eight at → Grown mem (dirtied b at mem)
+  pub grown-dirtied : (b : Bool) (at : ℕ) → Eight at → Grown mem (dirtied b at mem)
   grown-dirtied true at h = grown-added 6 at mem (omega arith) (omega arith) h
   grown-dirtied false at h = grown-none mem
 
-  grown-marked : (c : Control) (k : Access) (w : Reach) → Eights w → Grown mem (marked c k (w .end) (w .path) mem)
+  pub grown-marked : (c : Control) (k : Access) (w : Reach) → Eights w → Grown mem (marked c k (w .end) (w .path) mem)
   grown-marked c k w h = go (w .end) (h .leaf)
     where
       go : (e : End) → LeafEight e → Grown mem (marked c k e (w .path) mem)

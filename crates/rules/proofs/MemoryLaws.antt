@@ -1,18 +1,18 @@
 -- Reading an entry of memory after a bit was added to a byte of memory, for every bit and every memory.
 -- Two laws carry it: a bit below 8 added to an entry's lowest byte is that bit set in the entry, since the other bytes make a multiple of
 -- 256; and two entries at multiples of 8 are one or share no byte.
-use Prim.Native.Nat.{ℕ, zero, suc, _+_, _-_, _*_, _/_, _^_, _≤_, _<_}
+use Prim.Native.Nat.{ℕ, zero, suc, _+_, _-_, _*_, _/_, _%_, _^_, _≤_, _<_}
 use mathlib.Core.Path.{_≡_, refl, ap, sym, _∙_}
 use mathlib.Core.Logic.{_≢_}
-use mathlib.Core.Bool.{Bool, true, false, cond}
+use mathlib.Core.Bool.{Bool, true, false, cond, true≢false}
 use mathlib.Core.List.{[], _∷_}
 use native.Mathlib.Omega.{arith}
 use native.Mathlib.Nat.{le-of-suc-le-suc, not-suc-le-zero, add-mul-mod-self-left}
 use native.Mathlib.Decide.{decLt}
-use lib.ListN.{length, take, drop, set, length-set}
-use lib.Seq.{set-out, take-set-le, drop-set-lt, drop-set-add, getD-drop}
+use lib.ListN.{length, getD, take, drop, set, length-set}
+use lib.Seq.{drop-nil, set-getD, set-out, take-set-le, drop-set-lt, drop-set-add, getD-drop}
 use lib.Pow.{pow-pos, ones-split, ones-lt, high}
-use lib.Dec.{leb}
+use lib.Dec.{leb, eqb}
 use borrow.Author.Tests.{leb-true, le-leb, lt-leb, eq-eqb}
 use Rattle.rules.specs.Bits.{bit, isOn, withBit, word, AreBytes}
 use Rattle.rules.specs.Memory.{Memory, allOnes, entryAt, added}
@@ -81,6 +81,12 @@ same-entry k a mem h = rw (added-length k a mem) (go (leb (a + 8) (length mem)) 
     go true e = here k a mem h (omega (arith, leb-true (a + 8) (length mem) e))
     go false e = sym (on-stays k allOnes (ones-on k (omega arith)))
 
+-- a bit below 8 of an entry is one of its lowest byte
+low-on : (k a : ℕ) (mem : Memory) → k < 8 → isOn k (word (take 8 (drop a mem))) ≡ isOn k (getD mem a 0)
+low-on k a [] h = rw (drop-nil {A = ℕ} a)
+low-on k zero (x ∷ xs) h = ap (λ (b : ℕ). eqb b 1) (bit-low k 8 (x + 256 * word (take 7 xs)) x h (add-mul-mod-self-left x 256 _))
+low-on k (suc a) (x ∷ xs) h = low-on k a xs h
+
 -- ---- an entry after a bit was added to another
 apart : (i j v : ℕ) (mem : Memory) → i ≢ j → take 8 (drop (8 * j) (set mem (8 * i) v)) ≡ take 8 (drop (8 * j) mem)
 apart i j v mem h = go (decLt i j)
@@ -93,3 +99,26 @@ apart i j v mem h = go (decLt i j)
 
 pub other-entry : (k i j : ℕ) (mem : Memory) → i ≢ j → entryAt (added k (8 * i) mem) (8 * j) ≡ entryAt mem (8 * j)
 other-entry k i j mem h = rw (added-length k (8 * i) mem, apart i j _ mem h)
+
+-- ---- a bit that an entry has need not be added; one that it lacks stands inside memory
+module _ (k a : ℕ) (mem : Memory) (eight : a % 8 ≡ 0) (whole : length mem % 8 ≡ 0) where
+  inside : a < length mem → a + 8 ≤ length mem
+  inside h = omega arith
+
+  pub added-already : k < 8 → isOn k (entryAt mem a) ≡ true → mem ≡ added k a mem
+  added-already h on = go (decLt a (length mem))
+    where
+      go : Dec (a < length mem) → mem ≡ added k a mem
+      go (no g) = sym (added-outside k a mem (omega arith))
+      go (yes l) =
+          let e : isOn k (getD mem a 0) ≡ true = sym (low-on k a mem h) ∙ ap (isOn k) (sym (entry-inside a mem (inside l))) ∙ on in
+          sym (ap (set mem a) (on-stays k (getD mem a 0) e) ∙ set-getD mem a 0)
+
+  pub lacks-inside : k < 64 → isOn k (entryAt mem a) ≡ false → a < length mem
+  lacks-inside h off = go (decLt a (length mem))
+    where
+      go : Dec (a < length mem) → a < length mem
+      go (yes l) = l
+      go (no g) =
+          let z : true ≡ false = sym (ap (isOn k) (entry-outside a mem (omega arith)) ∙ ones-on k h) ∙ off in
+          absurd (true≢false z)

@@ -6,7 +6,7 @@ use mathlib.Core.Bool.{Bool, true, false, cond}
 use mathlib.Core.List.{[], _∷_, List·Memᴰ, List·Memᴰ·head, List·Memᴰ·tail, Memᴰ·append-left, Memᴰ·append-right}
 use native.Mathlib.Omega.{arith}
 use native.Mathlib.Nat.{add-comm, mod-lt, mod-eq-of-lt, mul-assoc, mul-mod-left, lt-of-lt-of-le}
-use lib.Dec.{eqb, ltb}
+use lib.Dec.{ltb}
 use lib.Pow.{pow-pos, pow-mono, pow-add, high, shl-lt}
 use borrow.Author.Tests.{lt-ltb, le-ltb}
 use Rattle.rules.specs.Bits.{bit, field, part, one}
@@ -15,6 +15,7 @@ use Rattle.rules.specs.Image.{isHeld, isGlobal, pcidIn, pageIn, tagOf, r
 use Rattle.rules.specs.Buffer.{allWays}
 use Rattle.rules.specs.declared.Size.{Size}
 use Rattle.rules.specs.declared.Rights.{Rights}
+use Rattle.rules.proofs.BitLaws.{one-le, flag-back}
 
 -- ---- sizes
 pub size-at : (l : ℕ) → 1 ≤ l → l ≤ 3 → Is (sizeAt l)
@@ -79,15 +80,6 @@ pub in-all : (z : Size) (a i : ℕ) → Is z → i / 4 ≡ setOf z a → List·M
 in-all z a i is-small h = Memᴰ·append-left _ (in-ways small a i h)
 in-all z a i is-middle h = Memᴰ·append-right (ways small a) (Memᴰ·append-left _ (in-ways middle a i h))
 in-all z a i is-large h = Memᴰ·append-right (ways small a) (Memᴰ·append-right (ways middle a) (in-ways large a i h))
-
--- ---- a flag read back
-one-le : (b : Bool) → one b ≤ 1
-one-le true = omega arith
-one-le false = omega arith
-
-flag-back : (b : Bool) (x : ℕ) → x ≡ one b → eqb x 1 ≡ b
-flag-back true x e = rw e
-flag-back false x e = rw e
 
 -- ---- the tag read back
 module _ (g : Bool) (p n : ℕ) where

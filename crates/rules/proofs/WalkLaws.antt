@@ -1,5 +1,5 @@
 -- What holds of every walk, by one induction over the level: the count is the number of addresses read; where a walk ends; what it writes.
-use Prim.Native.Nat.{ℕ, zero, suc, _+_, _≤_}
+use Prim.Native.Nat.{ℕ, zero, suc, _+_, _-_, _%_, _^_, _≤_, _<_}
 use mathlib.Core.Path.{_≡_, refl, ap, _∙_}
 use mathlib.Core.Bool.{Bool, true, false, cond, _&&_, _||_}
 use mathlib.Core.List.{List}
@@ -17,6 +17,7 @@ use Rattle.rules.specs.declared.Access.{Access}
 use Rattle.rules.specs.declared.Rights.{Rights}
 use Rattle.rules.specs.declared.Found.{Found}
 use Rattle.rules.specs.declared.Found.the-variants.{Page, Fault}
+use Rattle.rules.proofs.SizeLaws.{base-low, base-lt}
 
 -- ---- induction over the level, once for all laws: a property of the levels left and the walk from there holds of every walk, if it holds where
 -- no level is left and each step hands it on, whatever its entry says
@@ -29,6 +30,13 @@ module _ (P : ℕ → Reach → Type 0) (rd : ℕ → ℕ) (c : Control) (a : �
   reach-ind z s (suc n) base r =
       let e : ℕ = rd (place (suc n) base a) in
       s n (place (suc n) base a) (also r e) (reach rd c a n (next c e) (also r e)) (reach-ind z s n (next c e) (also r e)) (says c (suc n) e) refl
+
+-- the step, where a level is left
+pub reach-step : (rd : ℕ → ℕ) (c : Control) (a level base : ℕ) (r : Rights) → 0 < level
+    → let at : ℕ = place level base a in
+    reach rd c a level base r ≡ step c level at (rd at) (also r (rd at)) (reach rd c a (level - 1) (next c (rd at)) (also r (rd at))) (says c level (rd at))
+reach-step rd c a zero base r h = absurd (omega arith)
+reach-step rd c a (suc n) base r h = let e : suc n - 1 ≡ n = omega arith in rw e
 
 -- ---- the count is the number of addresses read, 1 to the level
 pub counted : (rd : ℕ → ℕ) (c : Control) (a level base : ℕ) (r : Rights)
@@ -119,6 +127,22 @@ leaf-level rd c a = reach-ind (λ n w. LeafLevel (w .end)) rd c a tt go
     go n at r below h absent q = tt
     go n at r below h bad q = tt
     go n at r below h page q = (omega arith, page-level c (suc n) (rd at) q)
+    go n at r below h table q = h
+
+-- a page's base is a multiple of 4096 below 2^52
+abbrev pub LeafBase : End → Type 0
+LeafBase (reached p) = (p .base % 4096 ≡ 0) × (p .base < 2 ^ 52)
+LeafBase (stuck cause level) = Unit {0}
+
+pub leaf-base : (rd : ℕ → ℕ) (c : Control) (a level base : ℕ) (r : Rights) → c .width ≤ 52 → LeafBase (reach rd c a level base r .end)
+leaf-base rd c a level base r w = reach-ind (λ n w. LeafBase (w .end)) rd c a tt go level base r
+  where
+    go : (n at : ℕ) (r : Rights) (below : Reach) → LeafBase (below .end) → (v : Entry) → says c (suc n) (rd at) ≡ v
+        → LeafBase (step c (suc n) at (rd at) r below v .end)
+    go n at r below h absent q = tt
+    go n at r below h bad q = tt
+    go n at r below h page q =
+        (base-low (suc n) (c .width) (rd at) (omega arith), base-lt (suc n) (c .width) (rd at) w (page-level c (suc n) (rd at) q))
     go n at r below h table q = h
 
 -- ---- a fault writes nothing

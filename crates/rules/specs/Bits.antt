@@ -47,15 +47,23 @@ abbrev pub word : List ℕ → ℕ
 word [] = 0
 word (x ∷ xs) = x + 256 * word xs
 
+-- the word of 64 bits at a place
+abbrev pub wordAt : List ℕ → ℕ → ℕ
+wordAt b at = word (take 8 (drop at b))
+
 -- the n lowest bytes of a number, lowest first
 abbrev pub bytesOf : ℕ → ℕ → List ℕ
 bytesOf zero x = []
 bytesOf (suc n) x = x % 256 ∷ bytesOf n (x / 256)
 
+-- the word of 64 bits at a place is now x
+abbrev pub wordPut : List ℕ → ℕ → ℕ → List ℕ
+wordPut b at x = take at b ++ (bytesOf 8 x ++ drop (at + 8) b)
+
 -- the first n words of 64 bits that bytes make
 abbrev pub wordsOf : ℕ → List ℕ → List ℕ
 wordsOf zero b = []
-wordsOf (suc n) b = word (take 8 b) ∷ wordsOf n (drop 8 b)
+wordsOf (suc n) b = wordAt b 0 ∷ wordsOf n (drop 8 b)
 
 -- the bytes of words of 64 bits
 abbrev pub bytesOfAll : List ℕ → List ℕ

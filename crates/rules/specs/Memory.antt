@@ -2,9 +2,9 @@
 use Prim.Native.Nat.{ℕ, _+_, _-_, _%_, _^_}
 use mathlib.Core.Bool.{Bool, cond, not}
 use mathlib.Core.List.{List}
-use lib.ListN.{length, getD, take, drop, set}
+use lib.ListN.{length, getD, set}
 use lib.Dec.{leb, eqb}
-use Rattle.rules.specs.Bits.{word, withBit}
+use Rattle.rules.specs.Bits.{wordAt, withBit}
 
 abbrev pub Memory : Type 0
 Memory = List ℕ
@@ -14,7 +14,7 @@ allOnes = 2 ^ 64 - 1
 
 -- eight bytes as a number; where they do not lie in memory, every bit reads as set
 abbrev pub entryAt : Memory → ℕ → ℕ
-entryAt mem a = cond (leb (a + 8) (length mem)) (word (take 8 (drop a mem))) allOnes
+entryAt mem a = cond (leb (a + 8) (length mem)) (wordAt mem a) allOnes
 
 -- one of an entry's lowest eight bits set in place, whatever else the byte holds by now; past the end of memory nothing happens
 abbrev pub added : ℕ → ℕ → Memory → Memory

@@ -1,0 +1,94 @@
+-- What the code computes, in the rules' names: eight bytes added up are their word, eight stores put a word, an `or` with one bit sets it, and
+-- shifts and a remainder cut out a part.
+use Prim.Native.Nat.{ℕ, zero, suc, _+_, _-_, _*_, _/_, _%_, _^_, _≤_, _<_}
+use mathlib.Core.Path.{_≡_, refl, ap, ap₂, sym, _∙_}
+use mathlib.Core.List.{List, [], _∷_, _++_, append-assoc}
+use native.Mathlib.Omega.{arith}
+use native.Mathlib.Nat.{mod-lt, max-eq-right, le-of-suc-le-suc, one-mul, add-zero, add-assoc, div-div-eq-div-mul}
+use lib.ListN.{length, getD, take, drop, set}
+use lib.Seq.{sets-eq, getD-drop, drop-drop}
+use lib.Pow.{pow-pos, split, shl-exact}
+use lib.Bits.{bitOr, or-block, or-step, or-zero-r}
+use Rattle.rules.specs.Bits.{part, withBit, word, wordAt, bytesOf, wordPut}
+use Rattle.rules.specs.Memory.{Memory, added}
+use Rattle.words.specs.Eight.{eightAt}
+
+-- ---- a word read
+word-first : (n : ℕ) (b : List ℕ) → word (take (suc n) b) ≡ getD b 0 0 + 256 * word (take n (drop 1 b))
+word-first zero [] = refl
+word-first (suc n) [] = refl
+word-first n (x ∷ b) = refl
+
+word-next : (n at : ℕ) (b : List ℕ) → word (take (suc n) (drop at b)) ≡ getD b at 0 + 256 * word (take n (drop (at + 1) b))
+word-next n at b = word-first n (drop at b) ∙ rw (getD-drop at b 0, add-zero, drop-drop 1 at b)
+
+pub word-eight : (at : ℕ) (b : List ℕ) → eightAt b at ≡ wordAt b at
+word-eight at b =
+    sym
+    (rw (
+      word-next 7 at b,
+      word-next 6 (at + 1) b,
+      add-assoc at 1 1,
+      word-next 5 (at + 2) b,
+      add-assoc at 2 1,
+      word-next 4 (at + 3) b,
+      add-assoc at 3 1,
+      word-next 3 (at + 4) b,
+      add-assoc at 4 1,
+      word-next 2 (at + 5) b,
+      add-assoc at 5 1,
+      word-next 1 (at + 6) b,
+      add-assoc at 6 1,
+      word-next 0 (at + 7) b,
+    ) (omega arith))
+
+-- ---- a word written
+bytes-eight : (x : ℕ) → bytesOf 8 x
+    ≡ x % 256 ∷ (x / 0x100 % 256) ∷ (x / 0x10000 % 256) ∷ (x / 0x1000000 % 256) ∷ (x / 0x100000000 % 256) ∷ (x / 0x10000000000 % 256)
+    ∷ (x / 0x1000000000000 % 256) ∷ (x / 0x100000000000000 % 256) ∷ []
+bytes-eight x = simp div-div-eq-div-mul
+
+pub put-eight : (s : List ℕ) (at x : ℕ) → at + 8 ≤ length s
+    → set (set (set (set (set (set (set (set s at (x % 256)) (at + 1) (x / 0x100 % 256)) (at + 2) (x / 0x10000 % 256)) (at + 3) (x / 0x1000000 % 256))
+    (at + 4) (x / 0x100000000 % 256)) (at + 5) (x / 0x10000000000 % 256)) (at + 6) (x / 0x1000000000000 % 256)) (at + 7) (x / 0x100000000000000 % 256)
+    ≡ wordPut s at x
+put-eight s at x fits =
+    let e1 : at + 1 ≡ suc at = omega arith in
+    let e2 : at + 2 ≡ suc (suc at) = omega arith in
+    let e3 : at + 3 ≡ suc (suc (suc at)) = omega arith in
+    let e4 : at + 4 ≡ suc (suc (suc (suc at))) = omega arith in
+    let e5 : at + 5 ≡ suc (suc (suc (suc (suc at)))) = omega arith in
+    let e6 : at + 6 ≡ suc (suc (suc (suc (suc (suc at))))) = omega arith in
+    let e7 : at + 7 ≡ suc (suc (suc (suc (suc (suc (suc at)))))) = omega arith in
+    rw (e1, e2, e3, e4, e5, e6, e7)
+    (sets-eq (x % 256 ∷ (x / 0x100 % 256) ∷ (x / 0x10000 % 256) ∷ (x / 0x1000000 % 256) ∷ (x / 0x100000000 % 256) ∷ (x / 0x10000000000 % 256)
+    ∷ (x / 0x1000000000000 % 256) ∷ (x / 0x100000000000000 % 256) ∷ []) s at fits
+    ∙ append-assoc (take at s) _ (drop (at + 8) s) ∙ ap (λ (l : List ℕ). take at s ++ (l ++ drop (at + 8) s)) (sym (bytes-eight x)))
+
+-- ---- a bit set by `or`
+or-one : (n : ℕ) → bitOr n 1 ≡ n / 2 * 2 + 1
+or-one n = or-step n 1 ∙ ap₂ (λ (x y : ℕ). x * 2 + y) (or-zero-r (n / 2)) (max-eq-right (le-of-suc-le-suc (mod-lt n (omega arith))))
+
+odd : (q : ℕ) → q / 2 * 2 + 1 ≡ q + (1 - q % 2)
+odd q = omega arith
+
+shared : (q c p r n : ℕ) → q * p + r ≡ n → (q + c) * p + r ≡ n + c * p
+shared q c p r n h = omega arith
+
+or-bit : (k n : ℕ) → bitOr n (2 ^ k) ≡ withBit k n
+or-bit k n =
+    ap₂ (λ (x y : ℕ). bitOr x y) (sym (split n k)) (sym (add-zero (1 * 2 ^ k) ∙ one-mul (2 ^ k)))
+    ∙ or-block k (n / 2 ^ k) 1 (n % 2 ^ k) 0 (mod-lt n (pow-pos k)) (pow-pos k)
+    ∙ ap₂ (λ (x y : ℕ). x * 2 ^ k + y) (or-one (n / 2 ^ k) ∙ odd (n / 2 ^ k)) (or-zero-r (n % 2 ^ k))
+    ∙ shared (n / 2 ^ k) (1 - n / 2 ^ k % 2) (2 ^ k) (n % 2 ^ k) n (split n k)
+
+pub one-shl : (k w : ℕ) → k < w → (1 * 2 ^ k) % 2 ^ w ≡ 2 ^ k
+one-shl k w h = shl-exact {a = 1} 1 k w (omega arith) (omega arith) ∙ one-mul (2 ^ k)
+
+pub put-bit : (k at : ℕ) (mem : Memory) → k < 8 → set mem at (bitOr (getD mem at 0) ((1 * 2 ^ k) % 2 ^ 8)) ≡ added k at mem
+put-bit k at mem h = ap (set mem at) (ap (bitOr (getD mem at 0)) (one-shl k 8 h) ∙ or-bit k (getD mem at 0))
+
+-- ---- a part cut out by shifts
+pub part-shifts : (h l x : ℕ) → l ≤ h → h < 64 → ((x / 2 ^ l % ((1 * 2 ^ (h - l)) % 2 ^ 64)) * 2 ^ l) % 2 ^ 64 ≡ part h l x
+part-shifts h l x g k =
+    rw (one-shl (h - l) 64 (omega arith)) (shl-exact (h - l) l 64 (mod-lt (x / 2 ^ l) (pow-pos (h - l))) (omega arith))

@@ -1,0 +1,76 @@
+// Bytes and words of a slice, and bits of a number. In machine code a read is one load, a write one store, a bit added one `or`.
+ghost use mathlib.Core.Path.{_≡_};
+ghost use Prim.Native.Nat.{_+_, _≤_, _<_};
+ghost use lib.ListN.{length};
+ghost use Rattle.rules.specs.Bits.{isOn, part as partOf, wordAt, wordPut};
+ghost use Rattle.rules.specs.Memory.{added};
+ghost use Rattle.words.specs.Eight.{eightAt};
+
+// A byte as a number.
+fn wide(x: u8) -> u64
+    ensures { λ r. ⌜ (r ≡ x) × (r < 256) ⌝ }
+{
+    x as u64
+}
+
+// Eight bytes, each at its own weight.
+fn read_eight(s: &[u8], at: usize) -> u64
+    requires { ⌜ at + 8 ≤ length (now s) ⌝ }
+    ensures { λ r. ⌜ r ≡ eightAt (now (s .entry)) at ⌝ }
+{
+    wide(s[at])
+        + wide(s[at + 1]) * 0x100
+        + wide(s[at + 2]) * 0x1_0000
+        + wide(s[at + 3]) * 0x100_0000
+        + wide(s[at + 4]) * 0x1_0000_0000
+        + wide(s[at + 5]) * 0x100_0000_0000
+        + wide(s[at + 6]) * 0x1_0000_0000_0000
+        + wide(s[at + 7]) * 0x100_0000_0000_0000
+}
+
+// The word of 64 bits at a place.
+pub fn read_word(s: &[u8], at: usize) -> u64
+    requires { ⌜ at + 8 ≤ length (now s) ⌝ }
+    ensures { λ r. ⌜ r ≡ wordAt (now (s .entry)) at ⌝ }
+{
+    read_eight(s, at)
+}
+
+// The word of 64 bits at a place is stored.
+pub fn write_word(s: &mut [u8], at: usize, x: u64)
+    requires { ⌜ at + 8 ≤ length (now s) ⌝ }
+    ensures { λ _. ⌜ now (s .exit) ≡ wordPut (now (s .entry)) at x ⌝ }
+{
+    s[at] = (x % 256) as u8;
+    s[at + 1] = (x / 0x100 % 256) as u8;
+    s[at + 2] = (x / 0x1_0000 % 256) as u8;
+    s[at + 3] = (x / 0x100_0000 % 256) as u8;
+    s[at + 4] = (x / 0x1_0000_0000 % 256) as u8;
+    s[at + 5] = (x / 0x100_0000_0000 % 256) as u8;
+    s[at + 6] = (x / 0x1_0000_0000_0000 % 256) as u8;
+    s[at + 7] = (x / 0x100_0000_0000_0000 % 256) as u8;
+}
+
+// Bit k of the byte at a place is set.
+pub fn add_bit(s: &mut [u8], at: usize, k: u8)
+    requires { ⌜ (at < length (now s)) × (k < 8) ⌝ }
+    ensures { λ _. ⌜ now (s .exit) ≡ added k at (now (s .entry)) ⌝ }
+{
+    s[at] = s[at] | (1u8 << k);
+}
+
+// Whether bit k is set.
+pub fn is_on(k: u64, x: u64) -> bool
+    requires { ⌜ k < 64 ⌝ }
+    ensures { λ r. ⌜ r ≡ isOn k x ⌝ }
+{
+    (x >> k) % 2 == 1
+}
+
+// Bits h - 1 down to l, where they stand.
+pub fn part(h: u64, l: u64, x: u64) -> u64
+    requires { ⌜ (l ≤ h) × (h < 64) ⌝ }
+    ensures { λ r. ⌜ r ≡ partOf h l x ⌝ }
+{
+    ((x >> l) % (1 << (h - l))) << l
+}
