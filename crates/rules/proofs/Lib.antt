@@ -6,6 +6,7 @@ pub mod MemoryLaws
 pub mod WalkLaws
 pub mod Alike
 pub mod Grown
+pub mod PlaceLaws
 pub mod SlotLaws
 pub mod AnswerLaws
 pub mod CallLaws
