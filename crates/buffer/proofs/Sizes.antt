@@ -1,5 +1,5 @@
 -- What the code over a size asks of it, by the three cases.
-use Prim.Native.Nat.{ℕ, _+_, _%_, _^_, _≤_, _<_}
+use Prim.Native.Nat.{ℕ, _+_, _%_, _<_}
 use native.Mathlib.Omega.{arith}
 use Rattle.rules.specs.Sizes.{Is, is-small, is-middle, is-large}
 use Rattle.rules.specs.declared.Size.{Size}

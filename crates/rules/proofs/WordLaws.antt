@@ -120,7 +120,7 @@ zero-word : (b : List ℕ) → eqb (word b) 0 ≡ allZero b
 zero-word [] = refl
 zero-word (x ∷ b) = rw (zero-sum, zero-word b)
 
-zero-append : (xs ys : List ℕ) → allZero (xs ++ ys) ≡ (allZero xs && allZero ys)
+pub zero-append : (xs ys : List ℕ) → allZero (xs ++ ys) ≡ (allZero xs && allZero ys)
 zero-append [] ys = refl
 zero-append (x ∷ xs) ys = rw (zero-append xs ys, and-assoc)
 

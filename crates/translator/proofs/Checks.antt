@@ -1,0 +1,119 @@
+-- The ways through the checks: what each return has to show, from the tests on its way. The image's words are read where its parts stand.
+use Prim.Native.Nat.{ℕ, zero, suc, _+_, _/_, _%_, _≤_, _<_}
+use mathlib.Core.Path.{_≡_, refl, ap, sym, _∙_}
+use mathlib.Core.Bool.{Bool, true, false, cond, _&&_, _||_, not, and-true, true≢false}
+use mathlib.Core.List.{List, []}
+use native.Mathlib.Omega.{arith}
+use native.Mathlib.Numerals.{add-one}
+use lib.ListN.{length, getD, take, drop, length-drop}
+use lib.Seq.{take-suc, take-all}
+use lib.Dec.{eqb, leb, ltb}
+use lib.Bits.{bitOr, or-add-and, and-le-r}
+use borrow.Author.Tests.{eq-eqb, ne-eqb, eqb-true, lt-ltb, le-ltb, ltb-false, not-false}
+use Rattle.rules.specs.Bits.{isOn, part, wordAt}
+use Rattle.rules.specs.Image.{decode, control}
+use Rattle.rules.specs.Memory.{Memory}
+use Rattle.rules.specs.Refusals.{start, translate, canonical, isLong, isOutside, allZero, isUnfit, noAddress, noCr3, noMode, noInvpcid, refusal}
+use Rattle.rules.specs.declared.Control.{Control}
+use Rattle.rules.proofs.WordLaws.{zero-append, zero-tail}
+use Rattle.rules.proofs.PlaceLaws.{width-at, flags-at, cr3-at, victims-at}
+
+-- ---- gather
+zero-or : (a b : ℕ) → eqb (bitOr a b) 0 ≡ (eqb a 0 && eqb b 0)
+zero-or zero b = refl
+zero-or (suc a) b =
+    rw (ne-eqb (suc a) 0 (λ e. omega arith)) (ne-eqb (bitOr (suc a) b) 0 (λ e. omega (arith, or-add-and (suc a) b, and-le-r (suc a) b)))
+
+pub one-more : (s : List ℕ) (i a : ℕ) → i < length s → eqb a 0 ≡ allZero (take i s) → eqb (bitOr a (getD s i 0)) 0 ≡ allZero (take (i + 1) s)
+one-more s i a h e = rw (add-one, take-suc s i 0 h, zero-append, and-true, zero-or, e)
+
+pub all-seen : (s : List ℕ) (i a : ℕ) → length s ≤ i → eqb a 0 ≡ allZero (take i s) → eqb a 0 ≡ allZero s
+all-seen s i a h e = e ∙ ap allZero (take-all i s h)
+
+-- ---- the image
+pub not-long : (b : List ℕ) → (length b ≡ 2048 → ⊥) → true ≡ isUnfit b
+not-long b h = rw (ne-eqb (length b) 2048 h)
+
+pub unfit-is : (b : List ℕ) (w f v n : ℕ) (o : Bool) → length b ≡ 2048 → w ≡ wordAt b 0 → f ≡ wordAt b 8 → v ≡ wordAt b 24 → o ≡ isOutside w
+    → eqb n 0 ≡ allZero (take 416 (drop 1632 b)) → (o || leb 32 f || leb 0x4000000000000 v || not (eqb n 0)) ≡ isUnfit b
+unfit-is b w f v n o h hw hf hv ho hn =
+    let t : take 416 (drop 1632 b) ≡ drop 1632 b = take-all 416 (drop 1632 b) (rw length-drop (omega arith)) in
+    rw (eq-eqb (length b) 2048 h, width-at b, flags-at b, victims-at b, zero-tail 256 204 b h (omega arith), ho, hw, hf, hv, hn, t)
+
+or-left : (p q : Bool) → (p || q) ≡ false → p ≡ false
+or-left true q h = h
+or-left false q h = refl
+
+or-right : (p q : Bool) → (p || q) ≡ false → q ≡ false
+or-right true q h = absurd (true≢false h)
+or-right false q h = h
+
+-- an image that is not refused is long enough, and has a width
+fit-front : (b : List ℕ) → isUnfit b ≡ false → (not (isLong b) || isOutside (decode b .width)) ≡ false
+fit-front b h = or-left _ _ (or-left _ _ (or-left _ _ h))
+
+pub fit-long : (b : List ℕ) (o : Bool) → o ≡ isUnfit b → o ≡ false → length b ≡ 2048
+fit-long b o e h = eqb-true (length b) 2048 (not-false (isLong b) (or-left (not (isLong b)) _ (fit-front b (sym e ∙ h))))
+
+pub fit-narrow : (b : List ℕ) (o : Bool) → o ≡ isUnfit b → o ≡ false → decode b .width ≤ 52
+fit-narrow b o e h = ltb-false 52 (decode b .width) (or-right (ltb (decode b .width) 36) _ (or-right (not (isLong b)) _ (fit-front b (sym e ∙ h))))
+
+-- ---- the conditions, over the words that were read
+module _ (b : List ℕ) (a f : ℕ) (hf : f ≡ wordAt b 8) where
+  pub paged : (p q : Bool) → p ≡ isOn 0 f → p ≡ true → ((c : Control) → q ≡ canonical c a) → not q ≡ noAddress (decode b) a
+  paged p q hp t hq = rw (flags-at b, ← hf, ← hp, t, ← hq (control (decode b)))
+
+  pub unpaged : (p : Bool) → p ≡ isOn 0 f → p ≡ false → leb 0x100000000 a ≡ noAddress (decode b) a
+  unpaged p hp t = rw (flags-at b, ← hf, ← hp, t)
+
+  pub no-cr3-is : (w v n : ℕ) (p q : Bool) → w ≡ wordAt b 0 → n ≡ part 63 w v → p ≡ isOn 3 f → q ≡ isOn 63 v
+      → (not (eqb n 0) || (q && not p)) ≡ noCr3 (decode b) v
+  no-cr3-is w v n p q hw hn hp hq = rw (flags-at b, width-at b, ← hf, ← hw, ← hp, ← hq, ← hn)
+
+  pub no-mode-is : (r v n : ℕ) (p q g : Bool) → r ≡ wordAt b 16 → n ≡ r % 4096 → p ≡ isOn 3 f → q ≡ isOn 3 v → g ≡ isOn 0 v
+      → (ltb 31 v || (q && not g) || (q && not p && not (eqb n 0))) ≡ noMode (decode b) v
+  no-mode-is r v n p q g hr hn hp hq hg =
+      let e : r / 1 % 4096 ≡ n = omega arith in
+      rw (flags-at b, cr3-at b, ← hf, ← hr, ← hp, ← hq, ← hg, e)
+
+  pub no-invpcid-is : (t k : ℕ) (p q : Bool) → p ≡ isOn 3 f → ((c : Control) → q ≡ canonical c a)
+      → (ltb 3 t || ltb 4095 k || (eqb t 0 && not q) || (leb t 1 && not p && not (eqb k 0))) ≡ noInvpcid (decode b) t k a
+  no-invpcid-is t k p q hp hq = rw (flags-at b, ← hf, ← hp, ← hq (control (decode b)))
+
+pub width-low : (b : List ℕ) (w : ℕ) → decode b .width ≤ 52 → w ≡ wordAt b 0 → w ≤ 63
+width-low b w h e = omega (arith, width-at b)
+
+-- ---- the lowest that applies
+pub long-enough : (b : List ℕ) (w : ℕ) → (length b ≡ 2048 → ⊥) → 2 ≡ refusal b [] (start w)
+long-enough b w h = rw (ne-eqb (length b) 2048 h)
+
+pub start-outside : (b : List ℕ) (w : ℕ) (o : Bool) → length b ≡ 2048 → o ≡ isOutside w → o ≡ true → 2 ≡ refusal b [] (start w)
+start-outside b w o h e t = rw (eq-eqb (length b) 2048 h, ← e, t)
+
+pub start-fits : (b : List ℕ) (w : ℕ) (o : Bool) → length b ≡ 2048 → o ≡ isOutside w → o ≡ false → 0 ≡ refusal b [] (start w)
+start-fits b w o h e t = rw (eq-eqb (length b) 2048 h, ← e, t)
+
+pub at-first : (u o : Bool) (x : ℕ) → o ≡ u → o ≡ true → _≡_ {A = ℕ} 2 (cond u 2 x)
+at-first u o x e t = rw (← e, t)
+
+pub at-second : (u v o p : Bool) (n x : ℕ) → o ≡ u → o ≡ false → p ≡ v → p ≡ true → n ≡ cond u 2 (cond v n x)
+at-second u v o p n x e t g y = rw (← e, t, ← g, y)
+
+pub at-neither : (u v o p : Bool) (n : ℕ) → o ≡ u → o ≡ false → p ≡ v → p ≡ false → _≡_ {A = ℕ} 0 (cond u 2 (cond v n 0))
+at-neither u v o p n e t g y = rw (← e, t, ← g, y)
+
+pub at-none : (u o : Bool) → o ≡ u → o ≡ false → _≡_ {A = ℕ} 0 (cond u 2 0)
+at-none u o e t = rw (← e, t)
+
+module _ (b : List ℕ) (mem : Memory) (k a : ℕ) (o : Bool) (fit : o ≡ isUnfit b) (yes-fit : o ≡ false) where
+  pub no-kind : 5 < k → 3 ≡ refusal b mem (translate k a)
+  no-kind h = rw (← fit, yes-fit, lt-ltb 5 k h)
+
+  pub ragged : k ≤ 5 → (length mem % 4096 ≡ 0 → ⊥) → 4 ≡ refusal b mem (translate k a)
+  ragged h r = rw (← fit, yes-fit, le-ltb 5 k h, ne-eqb (length mem % 4096) 0 r)
+
+  pub no-place : k ≤ 5 → length mem % 4096 ≡ 0 → (p : Bool) → p ≡ noAddress (decode b) a → p ≡ true → 5 ≡ refusal b mem (translate k a)
+  no-place h r p e t = rw (← fit, yes-fit, le-ltb 5 k h, eq-eqb (length mem % 4096) 0 r, ← e, t)
+
+  pub taken : k ≤ 5 → length mem % 4096 ≡ 0 → (p : Bool) → p ≡ noAddress (decode b) a → p ≡ false → 0 ≡ refusal b mem (translate k a)
+  taken h r p e t = rw (← fit, yes-fit, le-ltb 5 k h, eq-eqb (length mem % 4096) 0 r, ← e, t)

@@ -1,0 +1,163 @@
+// Which calls are refused: the lowest number that applies to a call, or 0.
+ghost use mathlib.Core.Path.{_≡_};
+ghost use Prim.Native.Nat.{_≤_};
+ghost use mathlib.Core.List.{[]};
+ghost use lib.Dec.{eqb};
+ghost use lib.ListN.{length};
+ghost use Rattle.rules.specs.Image.{decode};
+ghost use Rattle.rules.specs.Refusals.{start, translate, invlpg, invpcid, writeCr3, writeMode, canonical, allZero, isOutside, isUnfit, noAddress, noCr3, noMode, noInvpcid, refusal};
+ghost use Rattle.rules.specs.declared.Control.{Control};
+
+// All bytes or-ed together, with no early exit: 0 exactly if all are.
+fn gather(s: &[u8]) -> u8
+    ensures { λ r. ⌜ eqb r 0 ≡ allZero (now (s .entry)) ⌝ }
+{
+    let mut acc: u8 = 0;
+    let mut i = 0;
+    while i < s.len() {
+        acc = acc | s[i];
+        i += 1;
+    }
+    acc
+}
+
+fn is_outside(width: u64) -> bool
+    ensures { λ r. ⌜ r ≡ isOutside width ⌝ }
+{
+    (width < 36) | (52 < width)
+}
+
+// The bytes are no image that a call other than start takes.
+fn is_unfit(image: &[u8]) -> bool
+    ensures { λ r. ⌜ r ≡ isUnfit (now (image .entry)) ⌝ }
+{
+    if image.len() != 2048 {
+        return true;
+    }
+    let width = words::read_word(image, 0);
+    let flags = words::read_word(image, 8);
+    let victims = words::read_word(image, 24);
+    let rest = gather(&image[1632..2048]);
+    is_outside(width) | (32 <= flags) | (0x4_0000_0000_0000 <= victims) | !(rest == 0)
+}
+
+fn is_canonical(a: u64) -> bool
+    ensures { λ r. ⌜ ((c : Control) → r ≡ canonical c a) ⌝ }
+{
+    (a < 0x8000_0000_0000) | (0xFFFF_8000_0000_0000 <= a)
+}
+
+fn no_address(image: &[u8], a: u64) -> bool
+    requires { ⌜ length (now image) ≡ 2048 ⌝ }
+    ensures { λ r. ⌜ r ≡ noAddress (decode (now (image .entry))) a ⌝ }
+{
+    if words::is_on(0, words::read_word(image, 8)) {
+        return !is_canonical(a);
+    }
+    0x1_0000_0000 <= a
+}
+
+fn no_cr3(image: &[u8], value: u64) -> bool
+    requires { ⌜ (length (now image) ≡ 2048) × (decode (now image) .width ≤ 52) ⌝ }
+    ensures { λ r. ⌜ r ≡ noCr3 (decode (now (image .entry))) value ⌝ }
+{
+    let beyond = words::part(63, words::read_word(image, 0), value);
+    let spaces = words::is_on(3, words::read_word(image, 8));
+    !(beyond == 0) | (words::is_on(63, value) & !spaces)
+}
+
+fn no_mode(image: &[u8], value: u64) -> bool
+    requires { ⌜ length (now image) ≡ 2048 ⌝ }
+    ensures { λ r. ⌜ r ≡ noMode (decode (now (image .entry))) value ⌝ }
+{
+    let spaces = words::is_on(3, words::read_word(image, 8));
+    let named = words::read_word(image, 16) % 4096;
+    let wanted = words::is_on(3, value);
+    (31 < value) | (wanted & !words::is_on(0, value)) | (wanted & !spaces & !(named == 0))
+}
+
+fn no_invpcid(image: &[u8], kind: u64, pcid: u64, a: u64) -> bool
+    requires { ⌜ length (now image) ≡ 2048 ⌝ }
+    ensures { λ r. ⌜ r ≡ noInvpcid (decode (now (image .entry))) kind pcid a ⌝ }
+{
+    let spaces = words::is_on(3, words::read_word(image, 8));
+    (3 < kind)
+        | (4095 < pcid)
+        | ((kind == 0) & !is_canonical(a))
+        | ((kind <= 1) & !spaces & !(pcid == 0))
+}
+
+pub fn start_refusal(image: &[u8], width: u64) -> u64
+    ensures { λ r. ⌜ r ≡ refusal (now (image .entry)) [] (start width) ⌝ }
+{
+    if image.len() != 2048 {
+        return 2;
+    }
+    if is_outside(width) {
+        return 2;
+    }
+    0
+}
+
+pub fn translate_refusal(image: &[u8], mem: &[u8], kind: u64, a: u64) -> u64
+    ensures { λ r. ⌜ r ≡ refusal (now (image .entry)) (now (mem .entry)) (translate kind a) ⌝ }
+{
+    if is_unfit(image) {
+        return 2;
+    }
+    if 5 < kind {
+        return 3;
+    }
+    if mem.len() % 4096 != 0 {
+        return 4;
+    }
+    if no_address(image, a) {
+        return 5;
+    }
+    0
+}
+
+pub fn invlpg_refusal(image: &[u8], a: u64) -> u64
+    ensures { λ r. ⌜ r ≡ refusal (now (image .entry)) [] (invlpg a) ⌝ }
+{
+    if is_unfit(image) {
+        return 2;
+    }
+    0
+}
+
+pub fn invpcid_refusal(image: &[u8], kind: u64, pcid: u64, a: u64) -> u64
+    ensures { λ r. ⌜ r ≡ refusal (now (image .entry)) [] (invpcid kind pcid a) ⌝ }
+{
+    if is_unfit(image) {
+        return 2;
+    }
+    if no_invpcid(image, kind, pcid, a) {
+        return 8;
+    }
+    0
+}
+
+pub fn cr3_refusal(image: &[u8], value: u64) -> u64
+    ensures { λ r. ⌜ r ≡ refusal (now (image .entry)) [] (writeCr3 value) ⌝ }
+{
+    if is_unfit(image) {
+        return 2;
+    }
+    if no_cr3(image, value) {
+        return 6;
+    }
+    0
+}
+
+pub fn mode_refusal(image: &[u8], value: u64) -> u64
+    ensures { λ r. ⌜ r ≡ refusal (now (image .entry)) [] (writeMode value) ⌝ }
+{
+    if is_unfit(image) {
+        return 2;
+    }
+    if no_mode(image, value) {
+        return 7;
+    }
+    0
+}
