@@ -1,21 +1,29 @@
 -- The ways through the calls: refused, and accepted, each to the outcome of the rules' call.
-use Prim.Native.Nat.{ℕ, zero, suc, _+_, _≤_, _<_}
-use mathlib.Core.Path.{_≡_, refl, ap, sym, _∙_}
-use mathlib.Core.Bool.{Bool, true, false, cond, _||_, not}
+use Prim.Native.Nat.{ℕ, zero, suc, _+_, _/_, _%_, _^_, _≤_, _<_}
+use mathlib.Core.Path.{_≡_, refl, ap, ap₂, sym, _∙_, subst}
+use mathlib.Core.Bool.{Bool, true, false, cond, _&&_, _||_, not}
 use mathlib.Core.List.{List, [], _∷_, _++_}
 use native.Mathlib.Omega.{arith}
 use native.Mathlib.Numerals.{add-one}
+use lib.Dec.{eqb, ltb}
 use lib.ListN.{length, take, set, replicate, length-replicate}
 use lib.Seq.{take-suc-set, take-all}
-use borrow.Author.Tests.{eqb-true}
-use Rattle.rules.specs.Bits.{wordPut}
-use Rattle.rules.specs.Image.{started, encode, decode}
+use borrow.Author.Tests.{eqb-true, ltb-false}
+use Rattle.rules.specs.Bits.{AreBytes, isOn, wordAt, wordPut}
+use Rattle.rules.specs.Image.{Image, started, encode, decode, control, pg, pcide, pcid}
 use Rattle.rules.specs.Memory.{Memory}
-use Rattle.rules.specs.Refusals.{Request, start, isLong, isOutside, refusal}
-use Rattle.rules.specs.Calls.{accepted, Outcome, encoded, byNumber}
+use Rattle.rules.specs.Refusals.{Request, start, translate, invlpg, invpcid, writeCr3, writeMode, canonical, isLong, isOutside, isUnfit, noMode, noInvpcid, refusal}
+use Rattle.rules.specs.Calls.{withCr3, withFlags, sameMode, invpcidDrops, accepted, done, Outcome, encoded, byNumber}
+use Rattle.rules.specs.Buffer.{matches, others, dropped}
+use Rattle.rules.specs.declared.Control.{Control}
 use Rattle.rules.specs.declared.Answer.{Answer}
 use Rattle.rules.specs.declared.Answer.the-variants.{Refused, Done}
-use Rattle.translator.specs.Contract.{Leaves}
+use Rattle.rules.proofs.WordLaws.{zero-tail}
+use Rattle.rules.proofs.ImageLaws.{Sound, cr3-bytes, flags-bytes, decode-encode}
+use Rattle.rules.proofs.PlaceLaws.{IsImage, image-of, is-encoded, flags-at, cr3-at}
+use Rattle.buffer.specs.Drops.{droppedIn, every, notGlobal, ofSpace, ofSpaceAt}
+use Rattle.translator.specs.Contract.{IsSpace, Leaves}
+use Rattle.translator.proofs.Checks.{or-left, or-right, fit-long, fit-tail}
 
 -- ---- clear
 zeros-next : (i : ℕ) → replicate {A = ℕ} (suc i) 0 ≡ replicate i 0 ++ (0 ∷ [])
@@ -62,3 +70,179 @@ starts w n b b₁ b₂ h z e₁ e₂ =
 
 pub room : (w n : ℕ) (b b₁ : List ℕ) → n ≡ refusal b [] (start w) → n ≡ 0 → b₁ ≡ replicate (length b) 0 → 0 + 8 ≤ length b₁
 room w n b b₁ h z e = omega (arith, start-long b w (sym h ∙ z), ap length e ∙ length-replicate (length b) 0)
+
+-- ---- a call other than start that is accepted was given an image
+abbrev pub Later : Request → Type 0
+Later (start w) = ⊥
+Later (translate k a) = Unit {0}
+Later (invlpg a) = Unit {0}
+Later (invpcid t p a) = Unit {0}
+Later (writeCr3 v) = Unit {0}
+Later (writeMode v) = Unit {0}
+
+unrefused : (u : Bool) (x : ℕ) → cond u 2 x ≡ 0 → u ≡ false
+unrefused true x h = absurd (omega arith)
+unrefused false x h = refl
+
+unrefused-next : (u v : Bool) (k x : ℕ) → cond u 2 (cond v (suc k) x) ≡ 0 → v ≡ false
+unrefused-next true v k x h = absurd (omega arith)
+unrefused-next false true k x h = absurd (omega arith)
+unrefused-next false false k x h = refl
+
+fits : (q : Request) (b : List ℕ) (mem : Memory) → Later q → refusal b mem q ≡ 0 → isUnfit b ≡ false
+fits (start w) b mem l h = absurd l
+fits (translate k a) b mem l h = unrefused (isUnfit b) _ h
+fits (invlpg a) b mem l h = unrefused (isUnfit b) _ h
+fits (invpcid t p a) b mem l h = unrefused (isUnfit b) _ h
+fits (writeCr3 v) b mem l h = unrefused (isUnfit b) _ h
+fits (writeMode v) b mem l h = unrefused (isUnfit b) _ h
+
+pub call-long : (q : Request) (b : List ℕ) (mem : Memory) (n : ℕ) → Later q → n ≡ refusal b mem q → n ≡ 0 → length b ≡ 2048
+call-long q b mem n l h z = fit-long b (isUnfit b) refl (fits q b mem l (sym h ∙ z))
+
+pub call-room : (at : ℕ) (q : Request) (b : List ℕ) (mem : Memory) (n : ℕ) → Later q → n ≡ refusal b mem q → n ≡ 0 → at + 8 ≤ 2048 → at + 8 ≤ length b
+call-room at q b mem n l h z g = omega (arith, call-long q b mem n l h z)
+
+pub call-image : (q : Request) (b : List ℕ) (mem : Memory) (n : ℕ) → Later q → AreBytes b → n ≡ refusal b mem q → n ≡ 0 → IsImage b
+call-image q b mem n l bytes h z =
+    let f : isUnfit b ≡ false = fits q b mem l (sym h ∙ z) in
+    let k : length b ≡ 2048 = fit-long b (isUnfit b) refl f in
+    image-of b bytes k (sym (zero-tail 256 204 b k (omega arith)) ∙ fit-tail b f)
+
+-- ---- a call that is done leaves the bytes of the image that the rules say
+does : (q : Request) (b b′ : List ℕ) (n : ℕ) (s′ : Image) → ((mem : Memory) → refusal b mem q ≡ refusal b [] q)
+    → ((mem : Memory) → accepted (decode b) mem q ≡ done s′ mem) → n ≡ refusal b [] q → n ≡ 0 → b′ ≡ encode s′ → Leaves q b b′ Done
+does q b b′ n s′ f g h z e =
+    accepts q b b′ n Done f h z (λ mem. (λ i. record { answer = Done; image = e i; memory = mem }) ∙ ap encoded (sym (g mem)))
+
+-- ---- INVLPG
+module _ (a n : ℕ) (b : List ℕ) (k : Bool) (h : n ≡ refusal b [] (invlpg a)) (z : n ≡ 0) (kind : (c : Control) → k ≡ canonical c a) where
+  pub invlpg-drops : k ≡ true → (p : ℕ) (b′ : List ℕ) → p ≡ pcid (decode b) → b′ ≡ droppedIn (matches p a) b → Leaves (invlpg a) b b′ Done
+  unfolding droppedIn
+  invlpg-drops t p b′ hp e =
+      does (invlpg a) b b′ n (dropped (λ i u. canonical (control (decode b)) a && matches (pcid (decode b)) a i u) (decode b)) (λ mem. refl) (λ mem. refl) h z
+      (rw (← kind (control (decode b)), t, ← hp) e)
+
+  pub invlpg-nothing : k ≡ false → IsImage b → Leaves (invlpg a) b b Done
+  invlpg-nothing t was =
+      does (invlpg a) b b n (dropped (λ i u. canonical (control (decode b)) a && matches (pcid (decode b)) a i u) (decode b)) (λ mem. refl) (λ mem. refl) h z
+      (rw (← kind (control (decode b)), t) (sym (was .says)))
+
+-- ---- INVPCID, by its type
+module _ (t p a n : ℕ) (b b′ : List ℕ) (h : n ≡ refusal b [] (invpcid t p a)) (z : n ≡ 0) where
+  by-type : (u : ℕ) → t ≡ u → b′ ≡ droppedIn (invpcidDrops u p a) b → Leaves (invpcid t p a) b b′ Done
+  unfolding droppedIn
+  by-type u q e =
+      does (invpcid t p a) b b′ n (dropped (invpcidDrops t p a) (decode b)) (λ mem. refl) (λ mem. refl) h z
+      (e ∙ ap (λ (v : ℕ). encode (dropped (invpcidDrops v p a) (decode b))) (sym q))
+
+  pub invpcid-0 : t ≡ 0 → b′ ≡ droppedIn (ofSpaceAt p a) b → Leaves (invpcid t p a) b b′ Done
+  invpcid-0 q e = by-type 0 q e
+
+  pub invpcid-1 : t ≡ 1 → b′ ≡ droppedIn (ofSpace p) b → Leaves (invpcid t p a) b b′ Done
+  invpcid-1 q e = by-type 1 q e
+
+  pub invpcid-2 : t ≡ 2 → b′ ≡ droppedIn every b → Leaves (invpcid t p a) b b′ Done
+  invpcid-2 q e = by-type 2 q e
+
+  pub invpcid-3 : (t ≡ 0 → ⊥) → (t ≡ 1 → ⊥) → (t ≡ 2 → ⊥) → b′ ≡ droppedIn notGlobal b → Leaves (invpcid t p a) b b′ Done
+  invpcid-3 f g k e = go t refl
+    where
+      go : (u : ℕ) → t ≡ u → Leaves (invpcid t p a) b b′ Done
+      go zero q = absurd (f q)
+      go (suc zero) q = absurd (g q)
+      go (suc (suc zero)) q = absurd (k q)
+      go (suc (suc (suc u))) q = by-type (suc (suc (suc u))) q e
+
+  -- the address space is one of 4096
+  pub space-lt : p < 4096
+  space-lt =
+      let f : noInvpcid (decode b) t p a ≡ false = unrefused-next (isUnfit b) _ 7 0 (sym h ∙ z) in
+      let g : (ltb 3 t || ltb 4095 p) ≡ false = or-left _ (eqb t 0 && not (canonical (control (decode b)) a)) (or-left _ _ f) in
+      omega (arith, ltb-false 4095 p (or-right (ltb 3 t) _ g))
+
+-- ---- a CR3 write
+low : (v : ℕ) → v % 2 ^ 63 < 2 ^ 64
+low v = omega arith
+
+module _ (v n : ℕ) (b b₁ : List ℕ) (was : IsImage b) (h : n ≡ refusal b [] (writeCr3 v)) (z : n ≡ 0) (put : b₁ ≡ wordPut b 16 (v % 2 ^ 63)) where
+  abbrev rooted : Image
+  rooted = withCr3 (v % 2 ^ 63) (decode b)
+
+  rooted-bytes : b₁ ≡ encode rooted
+  rooted-bytes = put ∙ sym (cr3-bytes (v % 2 ^ 63) (decode b) ∙ ap (λ (x : List ℕ). wordPut x 16 (v % 2 ^ 63)) (was .says))
+
+  rooted-sound : Sound rooted
+  rooted-sound =
+      let q : Sound (decode b) = was .sound in
+      record {
+        width = q .width;
+        flags = q .flags;
+        cr3 = low v;
+        victims = q .victims;
+        tags = q .tags;
+        datums = q .datums;
+        beyond = q .beyond;
+      }
+
+  pub cr3-image : IsImage b₁
+  cr3-image = subst IsImage (sym rooted-bytes) (is-encoded rooted rooted-sound)
+
+  pub cr3-long : length b₁ ≡ 2048
+  cr3-long = cr3-image .size
+
+  pub cr3-keeps : (k : Bool) → k ≡ isOn 63 v → k ≡ true → Leaves (writeCr3 v) b b₁ Done
+  cr3-keeps k e t =
+      does (writeCr3 v) b b₁ n (dropped (λ i u. not (isOn 63 v) && others (pcid rooted) u) rooted) (λ mem. refl) (λ mem. refl) h z (rw (← e, t) rooted-bytes)
+
+  pub cr3-drops : (k : Bool) → k ≡ isOn 63 v → k ≡ false → (p : ℕ) (b₂ : List ℕ) → p ≡ pcid (decode b₁) → b₂ ≡ droppedIn (ofSpace p) b₁
+      → Leaves (writeCr3 v) b b₂ Done
+  unfolding droppedIn
+  cr3-drops k e t p b₂ hp d =
+      let r : decode b₁ ≡ rooted = ap decode rooted-bytes ∙ decode-encode rooted rooted-sound in
+      does (writeCr3 v) b b₂ n (dropped (λ i u. not (isOn 63 v) && others (pcid rooted) u) rooted) (λ mem. refl) (λ mem. refl) h z
+      (rw (← e, t) (d ∙ ap₂ (λ (y : ℕ) (s : Image). encode (dropped (λ i u. others y u) s)) (hp ∙ ap pcid r) r))
+
+-- ---- a mode write
+module _ (v n f : ℕ) (b b₁ : List ℕ) (was : IsImage b) (h : n ≡ refusal b [] (writeMode v)) (z : n ≡ 0) (old : f ≡ wordAt b 8)
+    (put : b₁ ≡ wordPut b 8 v) where
+  abbrev moded : Image
+  moded = withFlags v (decode b)
+
+  moded-bytes : b₁ ≡ encode moded
+  moded-bytes = put ∙ sym (flags-bytes v (decode b) ∙ ap (λ (x : List ℕ). wordPut x 8 v) (was .says))
+
+  few : v < 2 ^ 64
+  few =
+      let g : noMode (decode b) v ≡ false = unrefused-next (isUnfit b) _ 6 0 (sym h ∙ z) in
+      omega (arith, ltb-false 31 v (or-left (ltb 31 v) (pcide v && not (pg v)) (or-left _ _ g)))
+
+  moded-sound : Sound moded
+  moded-sound =
+      let q : Sound (decode b) = was .sound in
+      record { width = q .width; flags = few; cr3 = q .cr3; victims = q .victims; tags = q .tags; datums = q .datums; beyond = q .beyond }
+
+  pub mode-image : IsImage b₁
+  mode-image = subst IsImage (sym moded-bytes) (is-encoded moded moded-sound)
+
+  pub mode-keeps : (k : Bool) → k ≡ sameMode v f → k ≡ true → Leaves (writeMode v) b b₁ Done
+  mode-keeps k e t =
+      does (writeMode v) b b₁ n (dropped (λ i u. not (sameMode v (decode b .flags))) moded) (λ mem. refl) (λ mem. refl) h z
+      (rw (flags-at b, ← old, ← e, t) moded-bytes)
+
+  pub mode-drops : (k : Bool) → k ≡ sameMode v f → k ≡ false → (b₂ : List ℕ) → b₂ ≡ droppedIn every b₁ → Leaves (writeMode v) b b₂ Done
+  unfolding droppedIn
+  mode-drops k e t b₂ d =
+      let r : decode b₁ ≡ moded = ap decode moded-bytes ∙ decode-encode moded moded-sound in
+      does (writeMode v) b b₂ n (dropped (λ i u. not (sameMode v (decode b .flags))) moded) (λ mem. refl) (λ mem. refl) h z
+      (rw (flags-at b, ← old, ← e, t) (d ∙ ap (λ (s : Image). encode (dropped every s)) r))
+
+-- ---- the current address space
+pub spaced : (b : List ℕ) (f r : ℕ) (k : Bool) → f ≡ wordAt b 8 → r ≡ wordAt b 16 → k ≡ isOn 3 f → k ≡ true
+    → IsSpace b (r % 4096)
+spaced b f r k hf hr hk t =
+    let e : r / 1 % 4096 ≡ r % 4096 = omega arith in
+    record { current = rw (flags-at b, cr3-at b, ← hf, ← hr, ← hk, t, e); low = omega arith }
+
+pub spaceless : (b : List ℕ) (f : ℕ) (k : Bool) → f ≡ wordAt b 8 → k ≡ isOn 3 f → k ≡ false → IsSpace b 0
+spaceless b f k hf hk t = record { current = rw (flags-at b, ← hf, ← hk, t); low = omega arith }

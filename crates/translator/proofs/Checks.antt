@@ -1,5 +1,5 @@
 -- The ways through the checks: what each return has to show, from the tests on its way. The image's words are read where its parts stand.
-use Prim.Native.Nat.{ℕ, zero, suc, _+_, _/_, _%_, _≤_, _<_}
+use Prim.Native.Nat.{ℕ, zero, suc, _+_, _/_, _%_, _^_, _≤_, _<_}
 use mathlib.Core.Path.{_≡_, refl, ap, sym, _∙_}
 use mathlib.Core.Bool.{Bool, true, false, cond, _&&_, _||_, not, and-true, true≢false}
 use mathlib.Core.List.{List, []}
@@ -10,7 +10,7 @@ use lib.Seq.{take-suc, take-all}
 use lib.Dec.{eqb, leb, ltb}
 use lib.Bits.{bitOr, or-add-and, and-le-r}
 use borrow.Author.Tests.{eq-eqb, ne-eqb, eqb-true, lt-ltb, le-ltb, ltb-false, not-false}
-use Rattle.rules.specs.Bits.{isOn, part, wordAt}
+use Rattle.rules.specs.Bits.{wordsOf, isOn, part, wordAt}
 use Rattle.rules.specs.Image.{decode, control}
 use Rattle.rules.specs.Memory.{Memory}
 use Rattle.rules.specs.Refusals.{start, translate, canonical, isLong, isOutside, allZero, isUnfit, noAddress, noCr3, noMode, noInvpcid, refusal}
@@ -40,11 +40,11 @@ unfit-is b w f v n o h hw hf hv ho hn =
     let t : take 416 (drop 1632 b) ≡ drop 1632 b = take-all 416 (drop 1632 b) (rw length-drop (omega arith)) in
     rw (eq-eqb (length b) 2048 h, width-at b, flags-at b, victims-at b, zero-tail 256 204 b h (omega arith), ho, hw, hf, hv, hn, t)
 
-or-left : (p q : Bool) → (p || q) ≡ false → p ≡ false
+pub or-left : (p q : Bool) → (p || q) ≡ false → p ≡ false
 or-left true q h = h
 or-left false q h = refl
 
-or-right : (p q : Bool) → (p || q) ≡ false → q ≡ false
+pub or-right : (p q : Bool) → (p || q) ≡ false → q ≡ false
 or-right true q h = absurd (true≢false h)
 or-right false q h = h
 
@@ -57,6 +57,11 @@ fit-long b o e h = eqb-true (length b) 2048 (not-false (isLong b) (or-left (not 
 
 pub fit-narrow : (b : List ℕ) (o : Bool) → o ≡ isUnfit b → o ≡ false → decode b .width ≤ 52
 fit-narrow b o e h = ltb-false 52 (decode b .width) (or-right (ltb (decode b .width) 36) _ (or-right (not (isLong b)) _ (fit-front b (sym e ∙ h))))
+
+pub fit-tail : (b : List ℕ) → isUnfit b ≡ false → allZero (drop 204 (wordsOf 256 b)) ≡ true
+fit-tail b h =
+    not-false (allZero (drop 204 (wordsOf 256 b)))
+    (or-right (not (isLong b) || isOutside (decode b .width) || leb (2 ^ 5) (decode b .flags) || leb (2 ^ 50) (decode b .victims)) _ h)
 
 -- ---- the conditions, over the words that were read
 module _ (b : List ℕ) (a f : ℕ) (hf : f ≡ wordAt b 8) where

@@ -1,9 +1,11 @@
 // The calls, each answering as the rules' call of its name.
 ghost use mathlib.Core.Path.{_≡_};
 ghost use lib.ListN.{length, replicate};
-ghost use Rattle.rules.specs.Refusals.{start as startOf};
-ghost use Rattle.translator.specs.Contract.{Leaves};
+ghost use Rattle.rules.specs.Refusals.{start as startOf, invlpg as invlpgOf, invpcid as invpcidOf, writeCr3, writeMode};
+ghost use Rattle.rules.specs.Calls.{isSame, sameMode};
+ghost use Rattle.translator.specs.Contract.{IsSpace, Leaves};
 use crate::check;
+use buffer::drops;
 use rules::Answer;
 
 // Every byte is zero.
@@ -27,5 +29,106 @@ pub fn start(image: &mut [u8], width: u64) -> Answer
     }
     clear(image);
     words::write_word(image, 0, width);
+    Answer::Done
+}
+
+// The current address space.
+fn pcid_of(image: &[u8]) -> u64
+    requires { ⌜ length (now image) ≡ 2048 ⌝ }
+    ensures { λ r. ⌜ IsSpace (now (image .entry)) r ⌝ }
+{
+    if words::is_on(3, words::read_word(image, 8)) {
+        return words::read_word(image, 16) % 4096;
+    }
+    0
+}
+
+// What is held for an address is dropped.
+pub fn invlpg(image: &mut [u8], a: u64) -> Answer
+    ensures { λ r. ⌜ Leaves (invlpgOf a) (now (image .entry)) (now (image .exit)) r ⌝ }
+{
+    let number = check::invlpg_refusal(image, a);
+    if number != 0 {
+        return Answer::Refused { number };
+    }
+    if check::is_canonical(a) {
+        let space = pcid_of(image);
+        drops::drop_matches(image, a, space);
+        return Answer::Done;
+    }
+    Answer::Done
+}
+
+// Slots are dropped by the type: an address in one space, one space, all, all that are not everybody's.
+pub fn invpcid(image: &mut [u8], kind: u64, space: u64, a: u64) -> Answer
+    ensures { λ r. ⌜ Leaves (invpcidOf kind space a) (now (image .entry)) (now (image .exit)) r ⌝ }
+{
+    let number = check::invpcid_refusal(image, kind, space, a);
+    if number != 0 {
+        return Answer::Refused { number };
+    }
+    if kind == 0 {
+        drops::drop_address(image, a, space);
+        return Answer::Done;
+    }
+    if kind == 1 {
+        drops::drop_others(image, space);
+        return Answer::Done;
+    }
+    if kind == 2 {
+        drops::drop_everything(image);
+        return Answer::Done;
+    }
+    drops::drop_not_global(image);
+    Answer::Done
+}
+
+// CR3 is written; the slots of the space that it makes current are dropped, unless bit 63 says not to.
+pub fn write_cr3(image: &mut [u8], value: u64) -> Answer
+    ensures { λ r. ⌜ Leaves (writeCr3 value) (now (image .entry)) (now (image .exit)) r ⌝ }
+{
+    let number = check::cr3_refusal(image, value);
+    if number != 0 {
+        return Answer::Refused { number };
+    }
+    words::write_word(image, 16, value % 0x8000_0000_0000_0000);
+    if words::is_on(63, value) {
+        return Answer::Done;
+    }
+    let space = pcid_of(image);
+    drops::drop_others(image, space);
+    Answer::Done
+}
+
+fn is_same(a: bool, b: bool) -> bool
+    ensures { λ r. ⌜ r ≡ isSame a b ⌝ }
+{
+    if a { b } else { !b }
+}
+
+// No flag differs, but for write protect.
+fn same_mode(value: u64, flags: u64) -> bool
+    ensures { λ r. ⌜ r ≡ sameMode value flags ⌝ }
+{
+    is_same(words::is_on(0, value), words::is_on(0, flags))
+        & is_same(words::is_on(2, value), words::is_on(2, flags))
+        & is_same(words::is_on(3, value), words::is_on(3, flags))
+        & is_same(words::is_on(4, value), words::is_on(4, flags))
+}
+
+// The flags are written; everything is dropped if one changes, but for write protect.
+pub fn write_mode(image: &mut [u8], value: u64) -> Answer
+    ensures { λ r. ⌜ Leaves (writeMode value) (now (image .entry)) (now (image .exit)) r ⌝ }
+{
+    let number = check::mode_refusal(image, value);
+    if number != 0 {
+        return Answer::Refused { number };
+    }
+    let flags = words::read_word(image, 8);
+    words::write_word(image, 8, value);
+    if same_mode(value, flags) {
+        return Answer::Done;
+    }
+    drops::drop_everything(image);
     Answer::Done
 }

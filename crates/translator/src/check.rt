@@ -41,7 +41,7 @@ fn is_unfit(image: &[u8]) -> bool
     is_outside(width) | (32 <= flags) | (0x4_0000_0000_0000 <= victims) | !(rest == 0)
 }
 
-fn is_canonical(a: u64) -> bool
+pub fn is_canonical(a: u64) -> bool
     ensures { λ r. ⌜ ((c : Control) → r ≡ canonical c a) ⌝ }
 {
     (a < 0x8000_0000_0000) | (0xFFFF_8000_0000_0000 <= a)

@@ -1,0 +1,177 @@
+-- The ways through the functions of a fill: what each return of the code has to show, from the tests on its way.
+-- Bytes written to a part that was lent are written to the whole, further on (`within`), and after each write the bytes are an image's again.
+use Prim.Native.Nat.{ℕ, zero, suc, _+_, _-_, _*_, _/_, _%_, _^_, _≤_, _<_}
+use mathlib.Core.Path.{_≡_, refl, ap, ap₂, sym, _∙_}
+use mathlib.Core.Bool.{Bool, true, false, cond, not}
+use mathlib.Core.List.{List, _++_, append-assoc}
+use native.Mathlib.Omega.{arith}
+use native.Mathlib.Nat.{mod-lt, add-zero, add-assoc, mul-le-mul-right}
+use lib.ListN.{length, take, drop, length-append, length-drop, take-append-drop}
+use lib.Seq.{length-take-le, take-at, drop-at, take-take, take-add, drop-drop, drop-append-le}
+use lib.Pow.{pow-pos, pow-add, split, shl-exact, shr-lt}
+use borrow.Author.Tests.{lt-ltb, le-ltb}
+use Rattle.rules.specs.Bits.{isOn, bytesOf, wordAt, wordPut}
+use Rattle.rules.specs.Sizes.{sizeAt, setOf}
+use Rattle.rules.specs.Image.{Image, victim, movedOn, encode, decode}
+use Rattle.rules.specs.Buffer.{hit, miss, first, stored, withVictims, slotFor, filled}
+use Rattle.rules.specs.declared.Rights.{Rights}
+use Rattle.rules.specs.declared.Found.the-variants.{Page}
+use Rattle.rules.proofs.WordLaws.{bytes-length}
+use Rattle.rules.proofs.ImageLaws.{Sound, victims-bytes, store-bytes, decode-encode}
+use Rattle.rules.proofs.PlaceLaws.{IsImage, tag-at, victims-at, is-encoded, sound-victims}
+use Rattle.buffer.specs.Fill.{slotsOf, isFree, IsLowest, slotPut, filledAt}
+
+-- a walk's page goes to its own set
+pub filled-is : (s : Image) (a base level : ℕ) (r : Rights) (global dirty : Bool) (n : ℕ)
+    → filled s a (Page base level r global dirty n)
+    ≡ filledAt (setOf (sizeAt level) a) (slotFor s a (sizeAt level) base r global dirty .tag) (slotFor s a (sizeAt level) base r global dirty .datum) s
+filled-is s a base level r global dirty n = refl
+
+-- ---- free_way: the ways below this one are in use
+pub record Passed (s : Image) (set way : ℕ) : Type 0 where
+  pub low : way ≤ 4
+  pub same : first (isFree s) (slotsOf set) ≡ first (isFree s) (drop way (slotsOf set))
+
+at-way : (p : ℕ → Bool) (set way : ℕ) → way < 4
+    → first p (drop way (slotsOf set)) ≡ cond (p (4 * set + way)) (hit (4 * set + way)) (first p (drop (way + 1) (slotsOf set)))
+at-way p set zero h = rw add-zero
+at-way p set (suc zero) h = refl
+at-way p set (suc (suc zero)) h = refl
+at-way p set (suc (suc (suc zero))) h = refl
+at-way p set (suc (suc (suc (suc way)))) h = absurd (omega arith)
+
+none-left : (p : ℕ → Bool) (set way : ℕ) → way ≤ 4 → 4 ≤ way → first p (drop way (slotsOf set)) ≡ miss
+none-left p set way h g = let e : way ≡ 4 = omega arith in rw e
+
+pub none-passed : (s : Image) (set : ℕ) → Passed s set 0
+none-passed s set = record { low = omega arith; same = refl }
+
+module _ (b : List ℕ) (set way tag : ℕ) (on : Bool) (h : set < 25) (g : way < 4) (p : Passed (decode b) set way)
+    (t : tag ≡ wordAt b (32 + (4 * set + way) * 16)) (o : on ≡ isOn 0 tag) where
+  free-is : isFree (decode b) (4 * set + way) ≡ not on
+  free-is = rw (tag-at b (4 * set + way) (omega arith), ← t, ← o)
+
+  here : first (isFree (decode b)) (slotsOf set)
+      ≡ cond (not on) (hit (4 * set + way)) (first (isFree (decode b)) (drop (way + 1) (slotsOf set)))
+  here = rw (← free-is) (p .same ∙ at-way (isFree (decode b)) set way g)
+
+  pub passed-on : on ≡ true → Passed (decode b) set (way + 1)
+  passed-on e = record { low = omega arith; same = rw e at here }
+
+  pub free-here : on ≡ false → IsLowest (decode b) set way
+  free-here e = record { right = rw (lt-ltb way 4 g) (rw e at here); low = omega arith }
+
+pub none-free : (s : Image) (set way : ℕ) → Passed s set way → 4 ≤ way → IsLowest s set way
+none-free s set way p h =
+    record { right = rw (le-ltb way 4 h) (p .same ∙ none-left (isFree s) set way (p .low) h); low = p .low }
+
+-- ---- moved_on: with p = 2 ^ (2 * n), the victims are (4 * q + m) * p + r, of which m is set n's; x takes its place
+placed : (p q m r v x : ℕ) → v ≡ (4 * q + m) * p + r → v - m * p + x * p ≡ (4 * q + x) * p + r
+placed p q m r v x e = omega arith
+
+placed-lt : (p k q r x : ℕ) → q < k → r < p → x < 4 → (4 * q + x) * p + r < 4 * k * p
+placed-lt p k q r x h g f =
+    let l : 4 * q + x + 1 ≤ 4 * k = omega arith in
+    omega (arith, mul-le-mul-right p l)
+
+module _ (n v : ℕ) where
+  parts : v ≡ (4 * (v / 2 ^ (2 * n) / 4) + victim n v) * 2 ^ (2 * n) + v % 2 ^ (2 * n)
+  parts =
+      let q : 4 * (v / 2 ^ (2 * n) / 4) + victim n v ≡ v / 2 ^ (2 * n) = omega arith in
+      rw q (sym (split v (2 * n)))
+
+  moved-lt : (x : ℕ) → n < 25 → v < 2 ^ 64 → x < 4 → v - victim n v * 2 ^ (2 * n) + x * 2 ^ (2 * n) < 2 ^ 64
+  moved-lt x h g f =
+      let j : 64 - 2 * n + 2 * n ≡ 64 = omega arith in
+      let i : 2 + (62 - 2 * n) ≡ 64 - 2 * n = omega arith in
+      let k : 2 ^ (64 - 2 * n) ≡ 4 * 2 ^ (62 - 2 * n) = rw i at (pow-add 2 2 (62 - 2 * n)) in
+      let whole : 2 ^ 64 ≡ 4 * 2 ^ (62 - 2 * n) * 2 ^ (2 * n) = rw (j, k) at (pow-add 2 (64 - 2 * n) (2 * n)) in
+      let q : v / 2 ^ (2 * n) < 2 ^ (64 - 2 * n) = shr-lt (64 - 2 * n) (2 * n) (rw j g) in
+      rw (placed (2 ^ (2 * n)) _ (victim n v) _ v x parts, whole)
+      (placed-lt (2 ^ (2 * n)) (2 ^ (62 - 2 * n)) _ _ x (omega arith) (mod-lt v (pow-pos (2 * n))) f)
+
+shifted : (n w : ℕ) → n < 25 → w < 4 → w * 2 ^ (2 * n) % 2 ^ 64 ≡ w * 2 ^ (2 * n)
+shifted n w h g = shl-exact 2 (2 * n) 64 g (omega arith)
+
+module _ (n v w : ℕ) (h : n < 25) (e : w ≡ victim n v) where
+  pub victim-le : w * 2 ^ (2 * n) % 2 ^ 64 ≤ v
+  victim-le = rw (shifted n w h (omega arith), e) (omega (arith, parts n v))
+
+  pub moves : v - w * 2 ^ (2 * n) % 2 ^ 64 + (w + 1) % 4 * 2 ^ (2 * n) % 2 ^ 64 ≡ movedOn n v
+  moves = rw (shifted n w h (omega arith), shifted n ((w + 1) % 4) h (omega arith), e)
+
+  pub moves-lt : (x : ℕ) → v < 2 ^ 64 → v - w * 2 ^ (2 * n) % 2 ^ 64 + x % 4 * 2 ^ (2 * n) % 2 ^ 64 < 2 ^ 64
+  moves-lt x g =
+      let f : x % 4 < 4 = omega arith in
+      rw (shifted n w h (omega arith), shifted n (x % 4) h f, e) (moved-lt n v (x % 4) h g f)
+
+-- ---- store: two words one after the other
+two-words : (b : List ℕ) (at t d : ℕ) → at + 16 ≤ length b
+    → wordPut (wordPut b at t) (at + 8) d ≡ take at b ++ (bytesOf 8 t ++ (bytesOf 8 d ++ drop (at + 16) b))
+two-words b at t d h =
+    let front = take at b ++ bytesOf 8 t in
+    let n : length front ≡ at + 8 = length-append (take at b) (bytesOf 8 t) ∙ ap₂ _+_ (length-take-le at b (omega arith)) (bytes-length 8 t) in
+    let e : wordPut b at t ≡ front ++ drop (at + 8) b = sym (append-assoc (take at b) (bytesOf 8 t) (drop (at + 8) b)) in
+    let back : drop (at + 8 + 8) (wordPut b at t) ≡ drop (at + 16) b =
+    sym (drop-drop 8 (at + 8) (wordPut b at t)) ∙ ap (λ (l : List ℕ). drop 8 (drop (at + 8) l)) e
+    ∙ ap (drop 8) (drop-at front (drop (at + 8) b) (at + 8) n) ∙ drop-drop 8 (at + 8) b
+    ∙ ap (λ (k : ℕ). drop k b) (add-assoc at 8 8) in
+    ap₂ (λ (x y : List ℕ). x ++ (bytesOf 8 d ++ y)) (ap (take (at + 8)) e ∙ take-at front (drop (at + 8) b) (at + 8) n) back
+    ∙ append-assoc (take at b) (bytesOf 8 t) _
+
+pub both-written : (b b₁ b₂ : List ℕ) (way t d : ℕ) → length b ≡ 64 → way < 4 → b₁ ≡ wordPut b (way * 16) t
+    → b₂ ≡ wordPut b₁ (way * 16 + 8) d → b₂ ≡ slotPut b way t d
+both-written b b₁ b₂ way t d h g e₁ e₂ =
+    e₂ ∙ ap (λ (l : List ℕ). wordPut l (way * 16 + 8) d) e₁ ∙ two-words b (way * 16) t d (omega arith)
+
+-- ---- store_way: bytes x at i of the n from a on are bytes at a + i
+within : (l x : List ℕ) (a n i k : ℕ) → a + n ≤ length l → i + k ≤ n
+    → take a l ++ ((take i (take n (drop a l)) ++ (x ++ drop (i + k) (take n (drop a l)))) ++ drop n (drop a l))
+    ≡ take (a + i) l ++ (x ++ drop (a + (i + k)) l)
+within l x a n i k h g =
+    let m = drop a l in
+    let size : length (take n m) ≡ n = length-take-le n m (rw length-drop (omega arith)) in
+    let rest : drop (i + k) (take n m) ++ drop n m ≡ drop (a + (i + k)) l =
+    sym (drop-append-le (i + k) (take n m) (drop n m) (omega arith))
+    ∙ ap (drop (i + k)) (take-append-drop n m) ∙ drop-drop (i + k) a l in
+    let front : take i (take n m) ≡ take i m = take-take i n m (omega arith) in
+    rw (front, take-add a i l) (simp append-assoc (ap (λ (z : List ℕ). take a l ++ (take i m ++ (x ++ z))) rest))
+
+pub way-stored : (b p : List ℕ) (set way tag datum : ℕ) → IsImage b → set < 25 → way < 4
+    → p ≡ slotPut (take (32 + set * 64 + 64 - (32 + set * 64)) (drop (32 + set * 64) b)) way tag datum
+    → take (32 + set * 64) b ++ (p ++ drop (32 + set * 64 + 64 - (32 + set * 64)) (drop (32 + set * 64) b))
+    ≡ encode (stored (4 * set + way) (record { tag = tag; datum = datum }) (decode b))
+way-stored b p set way tag datum q h g e =
+    let a = 32 + set * 64 in
+    let n : a + 64 - a ≡ 64 = omega arith in
+    let i : a + way * 16 ≡ 32 + 16 * (4 * set + way) = omega arith in
+    let j : a + (way * 16 + 16) ≡ 48 + 16 * (4 * set + way) = omega arith in
+    let s : encode (stored (4 * set + way) (record { tag = tag; datum = datum }) (decode b))
+    ≡ take (32 + 16 * (4 * set + way)) b ++ (bytesOf 8 tag ++ (bytesOf 8 datum ++ drop (48 + 16 * (4 * set + way)) b)) =
+    rw (q .says) at (store-bytes (4 * set + way) (record { tag = tag; datum = datum }) (decode b) (omega arith)) in
+    rw (e, n, s, ← i, ← j) (within b (bytesOf 8 tag ++ bytesOf 8 datum) a 64 (way * 16) 16 (omega (arith, q .size)) (omega arith))
+
+-- ---- fill
+pub into-free : (b b′ : List ℕ) (set way tag datum : ℕ) → IsLowest (decode b) set way → way < 4
+    → b′ ≡ encode (stored (4 * set + way) (record { tag = tag; datum = datum }) (decode b)) → b′ ≡ encode (filledAt set tag datum (decode b))
+into-free b b′ set way tag datum f h e = rw (f .right, lt-ltb way 4 h) e
+
+module _ (b b₁ : List ℕ) (set v v′ : ℕ) (q : IsImage b) (h : set < 25) (e : v ≡ wordAt b 24) (m : v′ ≡ movedOn set v) (w : b₁ ≡ wordPut b 24 v′) where
+  now-victims : v ≡ decode b .victims
+  now-victims = e ∙ sym (victims-at b)
+
+  bytes-moved : b₁ ≡ encode (withVictims v′ (decode b))
+  bytes-moved = w ∙ sym (rw (q .says) at (victims-bytes v′ (decode b)))
+
+  sound-moved : Sound (withVictims v′ (decode b))
+  sound-moved = sound-victims v′ (decode b) (rw (m, now-victims) (moved-lt set (decode b .victims) _ h (q .sound .victims) (omega arith))) (q .sound)
+
+  pub image-moved : IsImage b₁
+  image-moved = rw bytes-moved (is-encoded (withVictims v′ (decode b)) sound-moved)
+
+  pub over-victim : (b₂ : List ℕ) (way tag datum n : ℕ) → IsLowest (decode b) set way → 4 ≤ way → n ≡ victim set v
+      → b₂ ≡ encode (stored (4 * set + n) (record { tag = tag; datum = datum }) (decode b₁))
+      → b₂ ≡ encode (filledAt set tag datum (decode b))
+  over-victim b₂ way tag datum n f g k c =
+      let d : decode b₁ ≡ withVictims v′ (decode b) = ap decode bytes-moved ∙ decode-encode (withVictims v′ (decode b)) sound-moved in
+      rw (f .right, le-ltb way 4 g, ← now-victims, ← m, ← k) (rw d at c)

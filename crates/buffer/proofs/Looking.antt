@@ -1,0 +1,265 @@
+-- What looking up finds, from what each function's calls tell it: a slot by its masked tag, the first of a set, of a size, of all, and the first match.
+-- A match is a page held that is one's own, so the first slot that holds the page is the first match wherever it is one's own (own-first).
+use Prim.Native.Nat.{ℕ, zero, suc, _+_, _-_, _*_, _/_, _%_, _^_, _≤_, _<_}
+use mathlib.Core.Path.{_≡_, refl, ap, ap₂, sym, _∙_, subst}
+use mathlib.Core.Bool.{Bool, true, false, cond, _&&_, _||_}
+use mathlib.Core.List.{List, [], _∷_, _++_}
+use native.Mathlib.Omega.{arith}
+use native.Mathlib.Nat.{mod-lt, add-zero}
+use native.Mathlib.Numerals.{add-one, add-four, add-eight}
+use lib.Dec.{eqb}
+use lib.ListN.{length, getD, drop}
+use lib.Seq.{drop-cons}
+use lib.Pow.{split, pow-pos}
+use lib.Bits.{bitAnd, and-block, and-mask}
+use borrow.Author.Tests.{eqb-true, eqb-false, eq-eqb, ne-eqb}
+use Rattle.rules.specs.Bits.{wordAt}
+use Rattle.rules.specs.Sizes.{small, middle, large, Is, is-small, is-middle, is-large, sizeAt, pageNumber, setOf, ways}
+use Rattle.rules.specs.Image.{decode, pcid, pageIn}
+use Rattle.rules.specs.Buffer.{matches, Hit, hit, miss, first, allWays, find}
+use Rattle.rules.specs.declared.Size.{Size}
+use Rattle.rules.proofs.PlaceLaws.{tag-at}
+use Rattle.rules.proofs.SizeLaws.{size-at, set-lt, slot-size}
+use Rattle.buffer.specs.declared.look.Place.{Place}
+use Rattle.buffer.specs.declared.look.Place.the-variants.{At, Nowhere}
+use Rattle.buffer.specs.Look.{hitOf, Right, Looks, tagIn, isPage, isOf, holds, FirstHeld}
+
+-- ---- what is tested of a tag
+masked : (t : ℕ) → bitAnd t 0x3FFFFFFFFC001 ≡ t / 2 ^ 14 % 2 ^ 36 * 2 ^ 14 + t % 2
+masked t =
+    ap (λ (x : ℕ). bitAnd x 0x3FFFFFFFFC001) (sym (split t 14))
+    ∙ and-block 14 (t / 2 ^ 14) (2 ^ 36 - 1) (t % 2 ^ 14) 1 (mod-lt t (pow-pos 14)) (omega arith)
+    ∙ ap₂ (λ (x y : ℕ). x * 2 ^ 14 + y) (and-mask (t / 2 ^ 14) 36) (and-mask (t % 2 ^ 14) 1 ∙ low t)
+  where
+    low : (t : ℕ) → t % 2 ^ 14 % 2 ^ 1 ≡ t % 2
+    low t = omega arith
+
+-- one test of two fields is two tests
+both : (p r n : ℕ) → r < 2 → eqb (p * 2 ^ 14 + r) (n * 0x4000 + 1) ≡ eqb r 1 && eqb p n
+both p r n h = go (eqb r 1) (eqb p n) refl refl
+  where
+    go : (x y : Bool) → eqb r 1 ≡ x → eqb p n ≡ y → eqb (p * 2 ^ 14 + r) (n * 0x4000 + 1) ≡ x && y
+    go true true e f =
+        let a : r ≡ 1 = eqb-true r 1 e in
+        let b : p ≡ n = eqb-true p n f in
+        eq-eqb (p * 2 ^ 14 + r) (n * 0x4000 + 1) (omega arith)
+    go true false e f = ne-eqb (p * 2 ^ 14 + r) (n * 0x4000 + 1) (λ (q : p * 2 ^ 14 + r ≡ n * 0x4000 + 1). eqb-false p n f (omega arith))
+    go false y e f = ne-eqb (p * 2 ^ 14 + r) (n * 0x4000 + 1) (λ (q : p * 2 ^ 14 + r ≡ n * 0x4000 + 1). eqb-false r 1 e (omega arith))
+
+zeroth : (t : ℕ) → t % 2 ≡ t / 2 ^ 0 % 2
+zeroth t = omega arith
+
+pub page-test : (b : List ℕ) (at n t : ℕ) → t ≡ wordAt b at → eqb (bitAnd t 0x3FFFFFFFFC001) (n * 0x4000 + 1) ≡ isPage n (wordAt b at)
+page-test b at n t e =
+    let u : eqb (bitAnd t 0x3FFFFFFFFC001) (n * 0x4000 + 1) ≡ eqb (t % 2) 1 && eqb (pageIn t) n = rw (masked t) (both (pageIn t) (t % 2) n (omega arith)) in
+    rw (← e) (u ∙ ap (λ (x : ℕ). eqb x 1 && eqb (pageIn t) n) (zeroth t))
+
+pub own-test : (b : List ℕ) (i p t : ℕ) → i < 100 → t ≡ wordAt b (32 + i * 16) → (eqb (t / 2 % 2) 1 || eqb (t / 4 % 4096) p) ≡ isOf p (tagIn b i)
+own-test b i p t h e = rw (tag-at b i h, ← e)
+
+-- ---- a size's slots
+module _ (b : List ℕ) (a : ℕ) (z : Size) (n s : ℕ) (is : Is z) (en : n ≡ pageNumber z a) (es : s ≡ z .first + n % z .sets) where
+  own-set : s ≡ setOf z a
+  own-set = es ∙ ap (λ (x : ℕ). z .first + x % z .sets) en
+
+  -- slot i of the set holds the page if the tag at its place says so
+  slot-holds : (i at : ℕ) (x y : Bool) → i / 4 ≡ s → at ≡ 32 + i * 16 → x ≡ isPage n (wordAt b at) → x ≡ y → holds b a i ≡ y
+  slot-holds i at x y h k e t =
+      let g : i / 4 ≡ setOf z a = h ∙ own-set in
+      rw (slot-size z a i is g, eq-eqb (i / 4) (setOf z a) g, ← en, tag-at b i (omega (arith, set-lt z a is)), ← k) (sym e ∙ t)
+
+  slot-right : (i : ℕ) → i / 4 ≡ s → Right (At i (z .length))
+  slot-right i h =
+      let g : i / 4 ≡ setOf z a = h ∙ own-set in
+      (omega (arith, set-lt z a is), ap (λ (y : Size). y .length) (sym (slot-size z a i is g)))
+
+  of-set : (r : Place) → hitOf r ≡ first (holds b a) (4 * s ∷ (4 * s + 1) ∷ (4 * s + 2) ∷ (4 * s + 3) ∷ []) → Right r → FirstHeld b a (ways z a) r
+  of-set r h g = subst (λ (y : ℕ). FirstHeld b a (4 * y ∷ (4 * y + 1) ∷ (4 * y + 2) ∷ (4 * y + 3) ∷ []) r) own-set (record { held = h; right = g })
+
+  -- the way through the four tests that ends at the k-th
+  module _ (x₀ : Bool) (e₀ : x₀ ≡ isPage n (wordAt b (32 + 4 * s * 16))) where
+    slot-0 : (t : Bool) → x₀ ≡ t → holds b a (4 * s) ≡ t
+    slot-0 t = slot-holds (4 * s) (32 + 4 * s * 16) x₀ t (omega arith) (omega arith) e₀
+
+    pub way-0 : x₀ ≡ true → FirstHeld b a (ways z a) (At (4 * s) (z .length))
+    way-0 t = of-set _ (rw (slot-0 true t)) (slot-right (4 * s) (omega arith))
+
+    module _ (f₀ : x₀ ≡ false) (x₁ : Bool) (e₁ : x₁ ≡ isPage n (wordAt b (32 + 4 * s * 16 + 16))) where
+      slot-1 : (t : Bool) → x₁ ≡ t → holds b a (4 * s + 1) ≡ t
+      slot-1 t = slot-holds (4 * s + 1) (32 + 4 * s * 16 + 16) x₁ t (omega arith) (omega arith) e₁
+
+      pub way-1 : x₁ ≡ true → FirstHeld b a (ways z a) (At (4 * s + 1) (z .length))
+      way-1 t = of-set _ (rw (slot-0 false f₀, slot-1 true t)) (slot-right (4 * s + 1) (omega arith))
+
+      module _ (f₁ : x₁ ≡ false) (x₂ : Bool) (e₂ : x₂ ≡ isPage n (wordAt b (32 + 4 * s * 16 + 32))) where
+        slot-2 : (t : Bool) → x₂ ≡ t → holds b a (4 * s + 2) ≡ t
+        slot-2 t = slot-holds (4 * s + 2) (32 + 4 * s * 16 + 32) x₂ t (omega arith) (omega arith) e₂
+
+        pub way-2 : x₂ ≡ true → FirstHeld b a (ways z a) (At (4 * s + 2) (z .length))
+        way-2 t = of-set _ (rw (slot-0 false f₀, slot-1 false f₁, slot-2 true t)) (slot-right (4 * s + 2) (omega arith))
+
+        module _ (f₂ : x₂ ≡ false) (x₃ : Bool) (e₃ : x₃ ≡ isPage n (wordAt b (32 + 4 * s * 16 + 48))) where
+          slot-3 : (t : Bool) → x₃ ≡ t → holds b a (4 * s + 3) ≡ t
+          slot-3 t = slot-holds (4 * s + 3) (32 + 4 * s * 16 + 48) x₃ t (omega arith) (omega arith) e₃
+
+          pub way-3 : x₃ ≡ true → FirstHeld b a (ways z a) (At (4 * s + 3) (z .length))
+          way-3 t = of-set _ (rw (slot-0 false f₀, slot-1 false f₁, slot-2 false f₂, slot-3 true t)) (slot-right (4 * s + 3) (omega arith))
+
+          pub no-way : x₃ ≡ false → FirstHeld b a (ways z a) Nowhere
+          no-way f₃ = of-set _ (rw (slot-0 false f₀, slot-1 false f₁, slot-2 false f₂, slot-3 false f₃)) tt
+
+-- ---- one list of slots after the other, and so the three sizes
+abbrev orElse : Hit → Hit → Hit
+orElse (hit i) o = hit i
+orElse miss o = o
+
+first-append : (p : ℕ → Bool) (xs ys : List ℕ) → first p (xs ++ ys) ≡ orElse (first p xs) (first p ys)
+first-append p [] ys = refl
+first-append p (x ∷ xs) ys = go (p x) (first-append p xs ys)
+  where
+    go : (t : Bool) → first p (xs ++ ys) ≡ orElse (first p xs) (first p ys)
+        → cond t (hit x) (first p (xs ++ ys)) ≡ orElse (cond t (hit x) (first p xs)) (first p ys)
+    go true e = refl
+    go false e = e
+
+module _ (b : List ℕ) (a : ℕ) (xs ys : List ℕ) (r : Place) (h : FirstHeld b a xs r) where
+  here : (i l : ℕ) → r ≡ At i l → FirstHeld b a (xs ++ ys) (At i l)
+  here i l e =
+      let g : FirstHeld b a xs (At i l) = subst (FirstHeld b a xs) e h in
+      record { held = ap (λ (o : Hit). orElse o (first (holds b a) ys)) (g .held) ∙ sym (first-append (holds b a) xs ys); right = g .right }
+
+  later : (q : Place) → r ≡ Nowhere → FirstHeld b a ys q → FirstHeld b a (xs ++ ys) q
+  later q e g =
+      let m : miss ≡ first (holds b a) xs = sym (ap hitOf e) ∙ h .held in
+      record { held = g .held ∙ ap (λ (o : Hit). orElse o (first (holds b a) ys)) m ∙ sym (first-append (holds b a) xs ys); right = g .right }
+
+pub is-small-size : (z : Size) → z ≡ small → Is z
+is-small-size z e = subst Is (sym e) is-small
+
+pub is-middle-size : (z : Size) → z ≡ middle → Is z
+is-middle-size z e = subst Is (sym e) is-middle
+
+pub is-large-size : (z : Size) → z ≡ large → Is z
+is-large-size z e = subst Is (sym e) is-large
+
+of-size : (b : List ℕ) (a : ℕ) (r : Place) (y z : Size) → y ≡ z → FirstHeld b a (ways y a) r → FirstHeld b a (ways z a) r
+of-size b a r y z e h = subst (λ (x : Size). FirstHeld b a (ways x a) r) e h
+
+module _ (b : List ℕ) (a : ℕ) (z : Size) (r : Place) (e : z ≡ small) (h : FirstHeld b a (ways z a) r) where
+  pub held-small : (i l : ℕ) → r ≡ At i l → FirstHeld b a (allWays a) (At i l)
+  held-small i l f = here b a (ways small a) (ways middle a ++ ways large a) r (of-size b a r z small e h) i l f
+
+  module _ (f : r ≡ Nowhere) (y : Size) (q : Place) (d : y ≡ middle) (g : FirstHeld b a (ways y a) q) where
+    not-small : (u : Place) → FirstHeld b a (ways middle a ++ ways large a) u → FirstHeld b a (allWays a) u
+    not-small u k = later b a (ways small a) (ways middle a ++ ways large a) r (of-size b a r z small e h) u f k
+
+    pub held-middle : (i l : ℕ) → q ≡ At i l → FirstHeld b a (allWays a) (At i l)
+    held-middle i l k = not-small (At i l) (here b a (ways middle a) (ways large a) q (of-size b a q y middle d g) i l k)
+
+    pub held-large : (x : Size) (u : Place) → q ≡ Nowhere → x ≡ large → FirstHeld b a (ways x a) u → FirstHeld b a (allWays a) u
+    held-large x u k c w = not-small u (later b a (ways middle a) (ways large a) q (of-size b a q y middle d g) u k (of-size b a u x large c w))
+
+-- ---- the first that holds the page, and is one's own, is the first match; where none holds it there is none
+own-first : (p q m : ℕ → Bool) → ((i : ℕ) → p i ≡ q i && m i) → (xs : List ℕ) (i : ℕ) → hit i ≡ first q xs → m i ≡ true → hit i ≡ first p xs
+own-first p q m e [] i h g = h
+own-first p q m e (x ∷ xs) i h g = rw (e x) (go (q x) h (λ f. own-first p q m e xs i f g))
+  where
+    go : (t : Bool) → hit i ≡ cond t (hit x) (first q xs) → (hit i ≡ first q xs → hit i ≡ first p xs) → hit i ≡ cond (t && m x) (hit x) (first p xs)
+    go true f k = let j : i ≡ x = cc in rw (← j, g)
+    go false f k = k f
+
+none-first : (p q m : ℕ → Bool) → ((i : ℕ) → p i ≡ q i && m i) → (xs : List ℕ) → miss ≡ first q xs → miss ≡ first p xs
+none-first p q m e [] h = h
+none-first p q m e (x ∷ xs) h = rw (e x) (go (q x) h (λ f. none-first p q m e xs f))
+  where
+    go : (t : Bool) → miss ≡ cond t (hit x) (first q xs) → (miss ≡ first q xs → miss ≡ first p xs) → miss ≡ cond (t && m x) (hit x) (first p xs)
+    go true f k = cc
+    go false f k = k f
+
+abbrev isMatch : List ℕ → ℕ → ℕ → Bool
+isMatch b a i = matches (pcid (decode b)) a i (tagIn b i)
+
+module _ (b : List ℕ) (a : ℕ) (r : Place) (h : FirstHeld b a (allWays a) r) where
+  pub slot-fits : (i l : ℕ) → r ≡ At i l → i < 100
+  slot-fits i l e = subst Right e (h .right) .0
+
+  pub look-own : (i l p : ℕ) (x : Bool) → r ≡ At i l → p ≡ pcid (decode b) → x ≡ isOf p (tagIn b i) → x ≡ true → Looks b a (At i l)
+  look-own i l p x e ep ex t =
+      record {
+        first =
+            own-first (isMatch b a) (holds b a) (λ j. isOf (pcid (decode b)) (tagIn b j)) (λ j. refl) (allWays a) i (sym (ap hitOf e) ∙ h .held)
+            (rw (← ep) (sym ex ∙ t));
+        right = subst Right e (h .right);
+      }
+
+  pub look-none : r ≡ Nowhere → Looks b a Nowhere
+  look-none e =
+      record {
+        first = none-first (isMatch b a) (holds b a) (λ j. isOf (pcid (decode b)) (tagIn b j)) (λ j. refl) (allWays a) (sym (ap hitOf e) ∙ h .held);
+        right = tt;
+      }
+
+-- ---- way by way: what is left to look at from the k-th on
+pub record Left (b : List ℕ) (a k : ℕ) : Type 0 where
+  pub few : k ≤ 12
+  pub rest : find (decode b) a ≡ first (isMatch b a) (drop k (allWays a))
+
+pub left-all : (b : List ℕ) (a : ℕ) → Left b a 0
+left-all b a = record { few = omega arith; rest = refl }
+
+pub look-end : (b : List ℕ) (a k : ℕ) → Left b a k → 12 ≤ k → Looks b a Nowhere
+look-end b a k h g =
+    let e : k ≡ 12 = omega (arith, h .few) in
+    record { first = sym (h .rest ∙ ap (λ (x : ℕ). first (isMatch b a) (drop x (allWays a))) e); right = tt }
+
+-- the k-th way
+four : (s r : ℕ) (xs : List ℕ) → r < 4 → getD (4 * s ∷ (4 * s + 1) ∷ (4 * s + 2) ∷ (4 * s + 3) ∷ xs) r 0 ≡ 4 * s + r
+four s zero xs h = sym (add-zero (4 * s))
+four s (suc zero) xs h = refl
+four s (suc (suc zero)) xs h = refl
+four s (suc (suc (suc zero))) xs h = refl
+four s (suc (suc (suc (suc r)))) xs h = absurd (omega arith)
+
+nth : (a q r : ℕ) → q < 3 → r < 4 → getD (allWays a) (r + 4 * q) 0 ≡ 4 * setOf (sizeAt (1 + q)) a + r
+nth a zero r h g = rw add-zero (four (setOf small a) r (ways middle a ++ ways large a) g)
+nth a (suc zero) r h g = rw add-four (four (setOf middle a) r (ways large a) g)
+nth a (suc (suc zero)) r h g = rw add-eight (four (setOf large a) r [] g)
+nth a (suc (suc (suc q))) r h g = absurd (omega arith)
+
+-- the size at a level
+module _ (l : ℕ) (z : Size) where
+  pub at-one : l ≡ 1 → z ≡ small → z ≡ sizeAt l
+  at-one h e = rw h e
+
+  module _ (g : l ≡ 1 → ⊥) where
+    pub at-two : l ≡ 2 → z ≡ middle → z ≡ sizeAt l
+    at-two h e = rw h e
+
+    pub at-three : (l ≡ 2 → ⊥) → z ≡ large → z ≡ sizeAt l
+    at-three h e = rw (ne-eqb l 1 g, ne-eqb l 2 h) e
+
+pub way-size : (k : ℕ) (z : Size) → k < 12 → z ≡ sizeAt (1 + k / 4) → Is z
+way-size k z h e = subst Is (sym e) (size-at (1 + k / 4) (omega arith) (omega arith))
+
+module _ (b : List ℕ) (a k : ℕ) (h : Left b a k) (g : k < 12) (z : Size) (ez : z ≡ sizeAt (1 + k / 4))
+    (n s : ℕ) (en : n ≡ pageNumber z a) (es : s ≡ z .first + n % z .sets)
+    (p : ℕ) (ep : p ≡ pcid (decode b)) (x y : Bool)
+    (ex : x ≡ isPage n (wordAt b (32 + (4 * s + k % 4) * 16))) (ey : y ≡ isOf p (tagIn b (4 * s + k % 4))) where
+  this-way : getD (allWays a) k 0 ≡ 4 * s + k % 4
+  this-way =
+      let c : k % 4 + 4 * (k / 4) ≡ k = omega arith in
+      rw c at (nth a (k / 4) (k % 4) (omega arith) (omega arith))
+      ∙ ap (λ (w : Size). 4 * setOf w a + k % 4) (sym ez) ∙ ap (λ (w : ℕ). 4 * w + k % 4) (sym (own-set b a z n s (way-size k z g ez) en es))
+
+  decided : (t : Bool) → (x && y) ≡ t → find (decode b) a ≡ cond t (hit (4 * s + k % 4)) (first (isMatch b a) (drop (k + 1) (allWays a)))
+  decided t e =
+      let m : isMatch b a (4 * s + k % 4) ≡ t =
+      ap₂ _&&_ (slot-holds b a z n s (way-size k z g ez) en es (4 * s + k % 4) (32 + (4 * s + k % 4) * 16) x x (omega arith) refl ex refl) (rw (← ep) (sym ey)) ∙ e in
+      h .rest ∙ ap (first (isMatch b a)) (drop-cons (allWays a) k 0 g) ∙ rw (this-way, m, add-one k)
+
+  pub look-found : (x && y) ≡ true → Looks b a (At (4 * s + k % 4) (z .length))
+  look-found e =
+      record { first = sym (decided true e); right = slot-right b a z n s (way-size k z g ez) en es (4 * s + k % 4) (omega arith) }
+
+  pub look-next : (x && y) ≡ false → Left b a (k + 1)
+  look-next e = record { few = omega arith; rest = decided false e }

@@ -1,0 +1,38 @@
+-- Two words of zero are a slot's sixteen bytes; a slot that is not wanted stays.
+use Rattle.buffer.proofs.DropWays.{slot-dropped, slot-kept}
+use borrow.Author.Needs.{needs}
+use Rattle.buffer.proofs.drops.drop_slot.Statement.{statement}
+use Rattle.buffer.proofs.drops.drop_slot.Tie as tie
+
+read-word-requires : tie.Need-read-word-requires
+read-word-requires c κs = search needs
+
+write-word-requires : tie.Need-write-word-requires
+write-word-requires c κs = search needs
+
+write-word-requires-2 : tie.Need-write-word-requires-2
+write-word-requires-2 c κs = search needs
+
+same-length : tie.Need-same-length
+same-length c = search needs
+
+returns : tie.Need-returns
+returns c = search slot-dropped
+
+same-length-2 : tie.Need-same-length-2
+same-length-2 c = search needs
+
+returns-2 : tie.Need-returns-2
+returns-2 c = search slot-kept
+
+pub drop-slot-spec : {M : Type 1} → statement M
+drop-slot-spec =
+    tie.close
+    (tie.spec
+    read-word-requires
+    write-word-requires
+    write-word-requires-2
+    same-length
+    returns
+    same-length-2
+    returns-2)

@@ -1,0 +1,90 @@
+-- The five ways through it.
+use Rattle.buffer.proofs.Looking.{way-0, way-1, way-2, way-3, no-way}
+use borrow.Author.Needs.{needs}
+use Rattle.buffer.proofs.look.held_of.Statement.{statement}
+use Rattle.buffer.proofs.look.held_of.Tie as tie
+
+page-number-requires : tie.Need-page-number-requires
+page-number-requires c κs = search needs
+
+set-of-requires : tie.Need-set-of-requires
+set-of-requires c κs = search needs
+
+mul-i : tie.Need-mul-i
+mul-i c = search needs
+
+mul-at : tie.Need-mul-at
+mul-at c = search needs
+
+add-at : tie.Need-add-at
+add-at c = search needs
+
+is-page-requires : tie.Need-is-page-requires
+is-page-requires c κs = search needs
+
+returns : tie.Need-returns
+returns c = search way-0
+
+add-is-page : tie.Need-add-is-page
+add-is-page c = search needs
+
+is-page-requires-2 : tie.Need-is-page-requires-2
+is-page-requires-2 c κs = search needs
+
+add-t11 : tie.Need-add-t11
+add-t11 c = search needs
+
+returns-2 : tie.Need-returns-2
+returns-2 c = search way-1
+
+add-is-page-2 : tie.Need-add-is-page-2
+add-is-page-2 c = search needs
+
+is-page-requires-3 : tie.Need-is-page-requires-3
+is-page-requires-3 c κs = search needs
+
+add-t13 : tie.Need-add-t13
+add-t13 c = search needs
+
+returns-3 : tie.Need-returns-3
+returns-3 c = search way-2
+
+add-is-page-3 : tie.Need-add-is-page-3
+add-is-page-3 c = search needs
+
+is-page-requires-4 : tie.Need-is-page-requires-4
+is-page-requires-4 c κs = search needs
+
+add-t15 : tie.Need-add-t15
+add-t15 c = search needs
+
+returns-4 : tie.Need-returns-4
+returns-4 c = search way-3
+
+returns-5 : tie.Need-returns-5
+returns-5 c = search no-way
+
+pub held-of-spec : {M : Type 1} → statement M
+held-of-spec =
+    tie.close
+    (tie.spec
+    page-number-requires
+    set-of-requires
+    mul-i
+    mul-at
+    add-at
+    is-page-requires
+    returns
+    add-is-page
+    is-page-requires-2
+    add-t11
+    returns-2
+    add-is-page-2
+    is-page-requires-3
+    add-t13
+    returns-3
+    add-is-page-3
+    is-page-requires-4
+    add-t15
+    returns-4
+    returns-5)
