@@ -106,36 +106,51 @@ module _ (n v w : ℕ) (h : n < 25) (e : w ≡ victim n v) where
       rw (shifted n w h (omega arith), shifted n (x % 4) h f, e) (moved-lt n v (x % 4) h g f)
 
 -- ---- store: two words one after the other
-two-words : (b : List ℕ) (at t d : ℕ) → at + 16 ≤ length b
-    → wordPut (wordPut b at t) (at + 8) d ≡ take at b ++ (bytesOf 8 t ++ (bytesOf 8 d ++ drop (at + 16) b))
-two-words b at t d h =
-    let front = take at b ++ bytesOf 8 t in
-    let n : length front ≡ at + 8 = length-append (take at b) (bytesOf 8 t) ∙ ap₂ _+_ (length-take-le at b (omega arith)) (bytes-length 8 t) in
-    let e : wordPut b at t ≡ front ++ drop (at + 8) b = sym (append-assoc (take at b) (bytesOf 8 t) (drop (at + 8) b)) in
-    let back : drop (at + 8 + 8) (wordPut b at t) ≡ drop (at + 16) b =
-    sym (drop-drop 8 (at + 8) (wordPut b at t)) ∙ ap (λ (l : List ℕ). drop 8 (drop (at + 8) l)) e
-    ∙ ap (drop 8) (drop-at front (drop (at + 8) b) (at + 8) n) ∙ drop-drop 8 (at + 8) b
-    ∙ ap (λ (k : ℕ). drop k b) (add-assoc at 8 8) in
-    ap₂ (λ (x y : List ℕ). x ++ (bytesOf 8 d ++ y)) (ap (take (at + 8)) e ∙ take-at front (drop (at + 8) b) (at + 8) n) back
-    ∙ append-assoc (take at b) (bytesOf 8 t) _
+module _ (b : List ℕ) (at t : ℕ) (h : at + 16 ≤ length b) where
+  first-put : wordPut b at t ≡ (take at b ++ bytesOf 8 t) ++ drop (at + 8) b
+  first-put = sym (append-assoc (take at b) (bytesOf 8 t) (drop (at + 8) b))
+
+  first-end : length (take at b ++ bytesOf 8 t) ≡ at + 8
+  first-end = length-append (take at b) (bytesOf 8 t) ∙ ap₂ _+_ (length-take-le at b (omega arith)) (bytes-length 8 t)
+
+  before-second : take (at + 8) (wordPut b at t) ≡ take at b ++ bytesOf 8 t
+  before-second = ap (take (at + 8)) first-put ∙ take-at (take at b ++ bytesOf 8 t) (drop (at + 8) b) (at + 8) first-end
+
+  behind-first : drop (at + 8) (wordPut b at t) ≡ drop (at + 8) b
+  behind-first = ap (drop (at + 8)) first-put ∙ drop-at (take at b ++ bytesOf 8 t) (drop (at + 8) b) (at + 8) first-end
+
+  behind-second : drop (at + 8 + 8) (wordPut b at t) ≡ drop (at + 16) b
+  behind-second = rw (← drop-drop 8 (at + 8) (wordPut b at t), behind-first, drop-drop 8 (at + 8) b, add-assoc at 8 8)
+
+  two-words : (d : ℕ) → wordPut (wordPut b at t) (at + 8) d ≡ take at b ++ (bytesOf 8 t ++ (bytesOf 8 d ++ drop (at + 16) b))
+  two-words d =
+      ap₂ (λ (x y : List ℕ). x ++ (bytesOf 8 d ++ y)) before-second behind-second ∙ append-assoc (take at b) (bytesOf 8 t) _
 
 pub both-written : (b b₁ b₂ : List ℕ) (way t d : ℕ) → length b ≡ 64 → way < 4 → b₁ ≡ wordPut b (way * 16) t
     → b₂ ≡ wordPut b₁ (way * 16 + 8) d → b₂ ≡ slotPut b way t d
 both-written b b₁ b₂ way t d h g e₁ e₂ =
-    e₂ ∙ ap (λ (l : List ℕ). wordPut l (way * 16 + 8) d) e₁ ∙ two-words b (way * 16) t d (omega arith)
+    e₂ ∙ ap (λ (l : List ℕ). wordPut l (way * 16 + 8) d) e₁ ∙ two-words b (way * 16) t (omega arith) d
 
 -- ---- store_way: bytes x at i of the n from a on are bytes at a + i
+rest : (m : List ℕ) (n i : ℕ) → n ≤ length m → i ≤ n → drop i (take n m) ++ drop n m ≡ drop i m
+rest m n i h g =
+    let l : i ≤ length (take n m) = rw (length-take-le n m h) g in
+    sym (drop-append-le i (take n m) (drop n m) l) ∙ ap (drop i) (take-append-drop n m)
+
 within : (l x : List ℕ) (a n i k : ℕ) → a + n ≤ length l → i + k ≤ n
     → take a l ++ ((take i (take n (drop a l)) ++ (x ++ drop (i + k) (take n (drop a l)))) ++ drop n (drop a l))
     ≡ take (a + i) l ++ (x ++ drop (a + (i + k)) l)
 within l x a n i k h g =
     let m = drop a l in
-    let size : length (take n m) ≡ n = length-take-le n m (rw length-drop (omega arith)) in
-    let rest : drop (i + k) (take n m) ++ drop n m ≡ drop (a + (i + k)) l =
-    sym (drop-append-le (i + k) (take n m) (drop n m) (omega arith))
-    ∙ ap (drop (i + k)) (take-append-drop n m) ∙ drop-drop (i + k) a l in
     let front : take i (take n m) ≡ take i m = take-take i n m (omega arith) in
-    rw (front, take-add a i l) (simp append-assoc (ap (λ (z : List ℕ). take a l ++ (take i m ++ (x ++ z))) rest))
+    let back : drop (i + k) (take n m) ++ drop n m ≡ drop (i + k) m = rest m n (i + k) (rw length-drop (omega arith)) g in
+    rw (front, take-add a i l, ← drop-drop (i + k) a l)
+    (simp append-assoc (ap (λ (z : List ℕ). take a l ++ (take i m ++ (x ++ z))) back))
+
+slot-stored : (b : List ℕ) (i tag datum : ℕ) → IsImage b → i < 100
+    → encode (stored i (record { tag = tag; datum = datum }) (decode b))
+    ≡ take (32 + 16 * i) b ++ (bytesOf 8 tag ++ (bytesOf 8 datum ++ drop (48 + 16 * i) b))
+slot-stored b i tag datum q h = rw (q .says) at (store-bytes i (record { tag = tag; datum = datum }) (decode b) h)
 
 pub way-stored : (b p : List ℕ) (set way tag datum : ℕ) → IsImage b → set < 25 → way < 4
     → p ≡ slotPut (take (32 + set * 64 + 64 - (32 + set * 64)) (drop (32 + set * 64) b)) way tag datum
@@ -146,10 +161,8 @@ way-stored b p set way tag datum q h g e =
     let n : a + 64 - a ≡ 64 = omega arith in
     let i : a + way * 16 ≡ 32 + 16 * (4 * set + way) = omega arith in
     let j : a + (way * 16 + 16) ≡ 48 + 16 * (4 * set + way) = omega arith in
-    let s : encode (stored (4 * set + way) (record { tag = tag; datum = datum }) (decode b))
-    ≡ take (32 + 16 * (4 * set + way)) b ++ (bytesOf 8 tag ++ (bytesOf 8 datum ++ drop (48 + 16 * (4 * set + way)) b)) =
-    rw (q .says) at (store-bytes (4 * set + way) (record { tag = tag; datum = datum }) (decode b) (omega arith)) in
-    rw (e, n, s, ← i, ← j) (within b (bytesOf 8 tag ++ bytesOf 8 datum) a 64 (way * 16) 16 (omega (arith, q .size)) (omega arith))
+    rw (e, n, slot-stored b (4 * set + way) tag datum q (omega arith), ← i, ← j)
+    (within b (bytesOf 8 tag ++ bytesOf 8 datum) a 64 (way * 16) 16 (omega (arith, q .size)) (omega arith))
 
 -- ---- fill
 pub into-free : (b b′ : List ℕ) (set way tag datum : ℕ) → IsLowest (decode b) set way → way < 4

@@ -226,18 +226,6 @@ nth a (suc zero) r h g = rw add-four (four (setOf middle a) r (ways large a) g)
 nth a (suc (suc zero)) r h g = rw add-eight (four (setOf large a) r [] g)
 nth a (suc (suc (suc q))) r h g = absurd (omega arith)
 
--- the size at a level
-module _ (l : ℕ) (z : Size) where
-  pub at-one : l ≡ 1 → z ≡ small → z ≡ sizeAt l
-  at-one h e = rw h e
-
-  module _ (g : l ≡ 1 → ⊥) where
-    pub at-two : l ≡ 2 → z ≡ middle → z ≡ sizeAt l
-    at-two h e = rw h e
-
-    pub at-three : (l ≡ 2 → ⊥) → z ≡ large → z ≡ sizeAt l
-    at-three h e = rw (ne-eqb l 1 g, ne-eqb l 2 h) e
-
 pub way-size : (k : ℕ) (z : Size) → k < 12 → z ≡ sizeAt (1 + k / 4) → Is z
 way-size k z h e = subst Is (sym e) (size-at (1 + k / 4) (omega arith) (omega arith))
 

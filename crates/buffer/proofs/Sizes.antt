@@ -1,7 +1,9 @@
 -- What the code over a size asks of it, by the three cases.
 use Prim.Native.Nat.{ℕ, _+_, _%_, _<_}
+use mathlib.Core.Path.{_≡_}
 use native.Mathlib.Omega.{arith}
-use Rattle.rules.specs.Sizes.{Is, is-small, is-middle, is-large}
+use borrow.Author.Tests.{ne-eqb}
+use Rattle.rules.specs.Sizes.{small, middle, large, Is, is-small, is-middle, is-large, sizeAt}
 use Rattle.rules.specs.declared.Size.{Size}
 
 pub length-pos : (z : Size) → Is z → 0 < z .length
@@ -18,3 +20,15 @@ pub set-small : (z : Size) (n : ℕ) → Is z → z .first + n % z .sets < 25
 set-small z n is-small = omega arith
 set-small z n is-middle = omega arith
 set-small z n is-large = omega arith
+
+-- the size at a level
+module _ (l : ℕ) (z : Size) where
+  pub at-one : l ≡ 1 → z ≡ small → z ≡ sizeAt l
+  at-one h e = rw h e
+
+  module _ (g : l ≡ 1 → ⊥) where
+    pub at-two : l ≡ 2 → z ≡ middle → z ≡ sizeAt l
+    at-two h e = rw h e
+
+    pub at-three : (l ≡ 2 → ⊥) → z ≡ large → z ≡ sizeAt l
+    at-three h e = rw (ne-eqb l 1 g, ne-eqb l 2 h) e

@@ -1,10 +1,10 @@
 // Looking up: the first slot that matches an address. The first that holds its page is found by one masked compare a way, and whose it is is tested
 // on that slot alone; only where it is another address space's are all ways gone through.
 ghost use mathlib.Core.Path.{_≡_};
-ghost use Prim.Native.Nat.{_+_, _*_, _/_, _%_, _^_, _≤_, _<_};
+ghost use Prim.Native.Nat.{_+_, _^_, _≤_, _<_};
 ghost use lib.ListN.{length};
 ghost use Rattle.rules.specs.Bits.{wordAt};
-ghost use Rattle.rules.specs.Sizes.{Is, ways, sizeAt};
+ghost use Rattle.rules.specs.Sizes.{Is, ways};
 ghost use Rattle.rules.specs.Image.{decode, pcid as pcidOf};
 ghost use Rattle.rules.specs.Buffer.{allWays};
 ghost use Rattle.buffer.specs.Look.{Looks, tagIn, isPage, isOf, FirstHeld};
@@ -73,19 +73,6 @@ fn held(image: &[u8], a: u64) -> Place
     }
 }
 
-// The size of the pages at a level.
-fn size_at(level: u64) -> Size
-    ensures { λ r. ⌜ r ≡ sizeAt level ⌝ }
-{
-    if level == 1 {
-        return Page4K::size();
-    }
-    if level == 2 {
-        return Page2M::size();
-    }
-    Page1G::size()
-}
-
 // The first match, way by way.
 fn look_all(image: &[u8], a: u64, pcid: u64) -> Place
     requires { ⌜ (length (now image) ≡ 2048) × (pcid ≡ pcidOf (decode (now image))) ⌝ }
@@ -93,7 +80,7 @@ fn look_all(image: &[u8], a: u64, pcid: u64) -> Place
 {
     let mut k = 0;
     while k < 12 {
-        let z = size_at(1 + k / 4);
+        let z = crate::size::size_at(1 + k / 4);
         let number = crate::size::page_number(z, a);
         let i = (4 * crate::size::set_of(z, number) + k % 4) as usize;
         if is_page(image, 32 + i * 16, number) & is_of(image, i, pcid) {

@@ -1,7 +1,7 @@
 // The three page sizes: a type for each with its numbers, and what is the same for all.
 ghost use mathlib.Core.Path.{_≡_};
 ghost use Prim.Native.Nat.{_+_, _%_, _^_, _<_};
-ghost use Rattle.rules.specs.Sizes.{Is, small, middle, large, pageNumber};
+ghost use Rattle.rules.specs.Sizes.{Is, small, middle, large, sizeAt, pageNumber};
 use rules::Size;
 
 pub struct Page4K;
@@ -80,6 +80,19 @@ impl Page1G {
             first: Self::FIRST,
         }
     }
+}
+
+// The size of the pages at a level.
+pub fn size_at(level: u64) -> Size
+    ensures { λ r. ⌜ r ≡ sizeAt level ⌝ }
+{
+    if level == 1 {
+        return Page4K::size();
+    }
+    if level == 2 {
+        return Page2M::size();
+    }
+    Page1G::size()
 }
 
 // An address's page number.

@@ -8,7 +8,7 @@ size-requires : tie.Need-size-requires
 size-requires c κs = search needs
 
 held-of-requires : tie.Need-held-of-requires
-held-of-requires c κs = (search needs, search is-small-size)
+held-of-requires c κs = (search needs, search (is-small-size, is-middle-size, is-large-size))
 
 enum-known-i : tie.Need-enum-known-i
 enum-known-i c = search needs
@@ -20,7 +20,7 @@ size-requires-2 : tie.Need-size-requires-2
 size-requires-2 c κs = search needs
 
 held-of-requires-2 : tie.Need-held-of-requires-2
-held-of-requires-2 c κs = (search needs, search is-middle-size)
+held-of-requires-2 c κs = (search needs, search (is-small-size, is-middle-size, is-large-size))
 
 enum-known-i-2 : tie.Need-enum-known-i-2
 enum-known-i-2 c = search needs
@@ -32,7 +32,7 @@ size-requires-3 : tie.Need-size-requires-3
 size-requires-3 c κs = search needs
 
 held-of-requires-3 : tie.Need-held-of-requires-3
-held-of-requires-3 c κs = (search needs, search is-large-size)
+held-of-requires-3 c κs = (search needs, search (is-small-size, is-middle-size, is-large-size))
 
 returns : tie.Need-returns
 returns c = search held-small

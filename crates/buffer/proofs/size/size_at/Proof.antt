@@ -1,8 +1,8 @@
 -- The three ways through it.
-use Rattle.buffer.proofs.Looking.{at-one, at-two, at-three}
+use Rattle.buffer.proofs.Sizes.{at-one, at-two, at-three}
 use borrow.Author.Needs.{needs}
-use Rattle.buffer.proofs.look.size_at.Statement.{statement}
-use Rattle.buffer.proofs.look.size_at.Tie as tie
+use Rattle.buffer.proofs.size.size_at.Statement.{statement}
+use Rattle.buffer.proofs.size.size_at.Tie as tie
 
 size-requires : tie.Need-size-requires
 size-requires c κs = search needs
