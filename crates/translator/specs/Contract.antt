@@ -1,13 +1,22 @@
--- What a call that is lent no guest memory leaves, whatever guest memory there is: the rules' call.
+-- What the calls leave, as the rules' call says it.
 use mathlib.Core.Path.{_≡_}
 use mathlib.Core.List.{List}
-use Prim.Native.Nat.{ℕ, _<_}
-use Rattle.rules.specs.Image.{decode, pcid}
+use Prim.Native.Nat.{ℕ, _%_, _^_, _≤_, _<_}
+use lib.ListN.{length}
+use Rattle.rules.specs.Image.{Image, encode, decode, control, pcid}
 use Rattle.rules.specs.Memory.{Memory}
+use Rattle.rules.specs.Walk.{walk}
+use Rattle.rules.specs.Buffer.{filled}
+use Rattle.rules.specs.Answers.{answerOf}
 use Rattle.rules.specs.Refusals.{Request}
-use Rattle.rules.specs.Calls.{Outcome, call}
+use Rattle.rules.specs.Calls.{After, Outcome, call}
+use Rattle.rules.specs.declared.Access.{Access}
+use Rattle.rules.specs.declared.Found.{Found}
+use Rattle.rules.specs.declared.Found.the-variants.{Page, Fault}
 use Rattle.rules.specs.declared.Answer.{Answer}
+use Rattle.rules.proofs.PlaceLaws.{IsImage}
 
+-- a call that is lent no guest memory, whatever guest memory there is
 pub record Leaves (q : Request) (b b′ : List ℕ) (r : Answer) : Type 0 where
   pub outcome : (mem : Memory) → _≡_ {A = Outcome} (record { answer = r; image = b′; memory = mem }) (call b mem q)
 
@@ -15,3 +24,35 @@ pub record Leaves (q : Request) (b b′ : List ℕ) (r : Answer) : Type 0 where
 pub record IsSpace (b : List ℕ) (p : ℕ) : Type 0 where
   pub current : p ≡ pcid (decode b)
   pub low : p < 4096
+
+-- what translate leaves
+pub record Translates (q : Request) (b b′ : List ℕ) (mem mem′ : Memory) (r : Answer) : Type 0 where
+  pub outcome : _≡_ {A = Outcome} (record { answer = r; image = b′; memory = mem′ }) (call b mem q)
+
+-- ---- its parts, over the image's parts s
+-- what is known of an image and of memory once the call is accepted
+pub record Ready (b : List ℕ) (mem : Memory) : Type 0 where
+  pub image : IsImage b
+  pub wide : 36 ≤ decode b .width
+  pub narrow : decode b .width ≤ 52
+  pub whole : length mem % 8 ≡ 0
+
+-- the bytes, memory and answer of an outcome over parts
+pub record Gives (o : After) (b′ : List ℕ) (mem′ : Memory) (r : Answer) : Type 0 where
+  pub answer : r ≡ o .answer
+  pub image : b′ ≡ encode (o .image)
+  pub memory : mem′ ≡ o .memory
+
+-- a walk's finding answered, and filled into the image s
+abbrev pub missed : Image → Memory → Access → ℕ → After
+missed s mem k a =
+    record {
+      answer = answerOf (control s) k a (walk (control s) k a mem .found);
+      image = filled s a (walk (control s) k a mem .found);
+      memory = walk (control s) k a mem .memory;
+    }
+
+-- a finding as a walk makes it: a page's base and level are in their ranges
+abbrev pub Fits : Found → Type 0
+Fits (Page base level r global dirty n) = (base < 2 ^ 52) × ((1 ≤ level) × (level ≤ 3))
+Fits (Fault cause level n) = Unit {0}

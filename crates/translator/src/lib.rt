@@ -1,3 +1,4 @@
 // The calls on the host's bytes.
-pub mod calls; // calls.rt: the six calls
+pub mod calls; // calls.rt: start and the invalidating calls
 pub mod check; // check.rt: which calls are refused
+pub mod parts; // parts.rt: control, access, a slot's words and the fault code, as the rules name them

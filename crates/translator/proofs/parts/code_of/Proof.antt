@@ -1,0 +1,74 @@
+-- One way for each cause.
+use Rattle.translator.proofs.Numbers.{not-present, reserved, protection}
+use borrow.Author.Needs.{needs}
+use Rattle.translator.proofs.parts.code_of.Statement.{statement}
+use Rattle.translator.proofs.parts.code_of.Tie as tie
+
+one-requires : tie.Need-one-requires
+one-requires c κs = search needs
+
+mul-asked : tie.Need-mul-asked
+mul-asked c = search needs
+
+one-requires-2 : tie.Need-one-requires-2
+one-requires-2 c κs = search needs
+
+mul-asked-2 : tie.Need-mul-asked-2
+mul-asked-2 c = search needs
+
+add-asked : tie.Need-add-asked
+add-asked c = search needs
+
+one-requires-3 : tie.Need-one-requires-3
+one-requires-3 c κs = search needs
+
+mul-asked-3 : tie.Need-mul-asked-3
+mul-asked-3 c = search needs
+
+add-asked-2 : tie.Need-add-asked-2
+add-asked-2 c = search needs
+
+enum-told : tie.Need-enum-told
+enum-told c = search needs
+
+enum-told-2 : tie.Need-enum-told-2
+enum-told-2 c = search needs
+
+add-result : tie.Need-add-result
+add-result c = search needs
+
+enum-told-3 : tie.Need-enum-told-3
+enum-told-3 c = search needs
+
+add-result-2 : tie.Need-add-result-2
+add-result-2 c = search needs
+
+returns : tie.Need-returns
+returns c = search not-present
+
+returns-2 : tie.Need-returns-2
+returns-2 c = search reserved
+
+returns-3 : tie.Need-returns-3
+returns-3 c = search protection
+
+pub code-of-spec : {M : Type 1} → statement M
+code-of-spec =
+    tie.close
+    (tie.spec
+    one-requires
+    mul-asked
+    one-requires-2
+    mul-asked-2
+    add-asked
+    one-requires-3
+    mul-asked-3
+    add-asked-2
+    enum-told
+    enum-told-2
+    add-result
+    enum-told-3
+    add-result-2
+    returns
+    returns-2
+    returns-3)
