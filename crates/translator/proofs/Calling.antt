@@ -89,7 +89,7 @@ unrefused-next true v k x h = absurd (omega arith)
 unrefused-next false true k x h = absurd (omega arith)
 unrefused-next false false k x h = refl
 
-fits : (q : Request) (b : List ℕ) (mem : Memory) → Later q → refusal b mem q ≡ 0 → isUnfit b ≡ false
+pub fits : (q : Request) (b : List ℕ) (mem : Memory) → Later q → refusal b mem q ≡ 0 → isUnfit b ≡ false
 fits (start w) b mem l h = absurd l
 fits (translate k a) b mem l h = unrefused (isUnfit b) _ h
 fits (invlpg a) b mem l h = unrefused (isUnfit b) _ h

@@ -58,6 +58,9 @@ fit-long b o e h = eqb-true (length b) 2048 (not-false (isLong b) (or-left (not 
 pub fit-narrow : (b : List ℕ) (o : Bool) → o ≡ isUnfit b → o ≡ false → decode b .width ≤ 52
 fit-narrow b o e h = ltb-false 52 (decode b .width) (or-right (ltb (decode b .width) 36) _ (or-right (not (isLong b)) _ (fit-front b (sym e ∙ h))))
 
+pub fit-wide : (b : List ℕ) (o : Bool) → o ≡ isUnfit b → o ≡ false → 36 ≤ decode b .width
+fit-wide b o e h = ltb-false (decode b .width) 36 (or-left (ltb (decode b .width) 36) _ (or-right (not (isLong b)) _ (fit-front b (sym e ∙ h))))
+
 pub fit-tail : (b : List ℕ) → isUnfit b ≡ false → allZero (drop 204 (wordsOf 256 b)) ≡ true
 fit-tail b h =
     not-false (allZero (drop 204 (wordsOf 256 b)))

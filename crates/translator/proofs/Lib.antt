@@ -1,3 +1,4 @@
 pub mod Checks
 pub mod Calling
 pub mod Numbers
+pub mod Translating

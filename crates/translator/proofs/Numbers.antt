@@ -1,7 +1,7 @@
 -- The numbers of a translation, from what its functions' calls tell.
 use Prim.Native.Nat.{ℕ, _+_, _*_, _/_, _%_, _^_, _≤_, _<_}
 use mathlib.Core.Path.{_≡_, sym, subst}
-use mathlib.Core.Bool.{Bool, true, false, _&&_, _||_, not}
+use mathlib.Core.Bool.{Bool, _&&_, _||_, not}
 use native.Mathlib.Omega.{arith}
 use native.Mathlib.Nat.{mod-lt, div-add-mod}
 use Rattle.rules.specs.Bits.{isOn, one}
@@ -17,7 +17,6 @@ use Rattle.rules.specs.declared.Cause.{Cause}
 use Rattle.rules.specs.declared.Cause.the-variants.{NotPresent, Reserved, Protection}
 use Rattle.rules.specs.declared.Found.{Found}
 use Rattle.rules.specs.declared.Found.the-variants.{Page, Fault}
-use Rattle.rules.specs.declared.Answer.{Answer}
 use Rattle.rules.specs.declared.Answer.the-variants.{Address, PageFault}
 use Rattle.rules.proofs.SizeLaws.{size-at}
 use Rattle.translator.specs.Contract.{Fits}
@@ -53,7 +52,7 @@ pub protection : (k : Access) (cause : Cause) (w u x : ℕ) → w ≡ one (k .wr
 protection k cause w u x hw hu hx e c = rw (e, ← hw, ← hu, ← hx) (omega arith)
 
 -- ---- the answer for a page
-length-in : (z : Size) → Is z → (1 ≤ z .length) × (z .length ≤ 2 ^ 30)
+pub length-in : (z : Size) → Is z → (1 ≤ z .length) × (z .length ≤ 2 ^ 30)
 length-in z is-small = (omega arith, omega arith)
 length-in z is-middle = (omega arith, omega arith)
 length-in z is-large = (omega arith, omega arith)
@@ -62,8 +61,14 @@ module _ (f : Found) (base level n : ℕ) (r : Rights) (g d : Bool) (z : Size) (
   page-fits : Fits (Page base level r g d n)
   page-fits = subst Fits e fits
 
+  pub page-is : Is z
+  page-is = subst Is (sym size) (size-at level (page-fits .1 .0) (page-fits .1 .1))
+
+  pub page-base : base < 2 ^ 52
+  page-base = page-fits .0
+
   page-length : (1 ≤ z .length) × (z .length ≤ 2 ^ 30)
-  page-length = length-in z (subst Is (sym size) (size-at level (page-fits .1 .0) (page-fits .1 .1)))
+  page-length = length-in z page-is
 
   pub page-pos : 0 < z .length
   page-pos = page-length .0

@@ -1,8 +1,7 @@
 -- What the calls leave, as the rules' call says it.
 use mathlib.Core.Path.{_≡_}
 use mathlib.Core.List.{List}
-use Prim.Native.Nat.{ℕ, _%_, _^_, _≤_, _<_}
-use lib.ListN.{length}
+use Prim.Native.Nat.{ℕ, _^_, _≤_, _<_}
 use Rattle.rules.specs.Image.{Image, encode, decode, control, pcid}
 use Rattle.rules.specs.Memory.{Memory}
 use Rattle.rules.specs.Walk.{walk}
@@ -30,12 +29,11 @@ pub record Translates (q : Request) (b b′ : List ℕ) (mem mem′ : Memory) (r
   pub outcome : _≡_ {A = Outcome} (record { answer = r; image = b′; memory = mem′ }) (call b mem q)
 
 -- ---- its parts, over the image's parts s
--- what is known of an image and of memory once the call is accepted
-pub record Ready (b : List ℕ) (mem : Memory) : Type 0 where
+-- the bytes of an image, with a width
+pub record Usable (b : List ℕ) : Type 0 where
   pub image : IsImage b
   pub wide : 36 ≤ decode b .width
   pub narrow : decode b .width ≤ 52
-  pub whole : length mem % 8 ≡ 0
 
 -- the bytes, memory and answer of an outcome over parts
 pub record Gives (o : After) (b′ : List ℕ) (mem′ : Memory) (r : Answer) : Type 0 where

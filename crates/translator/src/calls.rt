@@ -33,7 +33,7 @@ pub fn start(image: &mut [u8], width: u64) -> Answer
 }
 
 // The current address space.
-fn pcid_of(image: &[u8]) -> u64
+pub fn pcid_of(image: &[u8]) -> u64
     requires { ⌜ length (now image) ≡ 2048 ⌝ }
     ensures { λ r. ⌜ IsSpace (now (image .entry)) r ⌝ }
 {

@@ -2,3 +2,4 @@
 pub mod calls; // calls.rt: start and the invalidating calls
 pub mod check; // check.rt: which calls are refused
 pub mod parts; // parts.rt: control, access, a slot's words and the fault code, as the rules name them
+pub mod translation; // translation.rt: translate

@@ -1,0 +1,241 @@
+-- The ways through translate: a walk's finding is kept and answered; a held page serves, or goes and is walked for; a call is refused, or answered.
+use Prim.Native.Nat.{ℕ, zero, suc, _+_, _*_, _/_, _%_, _^_, _≤_, _<_}
+use mathlib.Core.Path.{_≡_, refl, ap, sym, _∙_, subst}
+use mathlib.Core.Bool.{Bool, true, false, cond, _&&_, not}
+use mathlib.Core.List.{List}
+use native.Mathlib.Omega.{arith}
+use lib.Dec.{eqb, ltb}
+use lib.ListN.{length}
+use borrow.Author.Tests.{eqb-true}
+use Rattle.rules.specs.Bits.{AreBytes, isOn, part, wordAt}
+use Rattle.rules.specs.Sizes.{Is, is-small, is-middle, is-large, shift, sizeAt, sizeOf, pageNumber}
+use Rattle.rules.specs.Image.{Image, encode, decode, control, pg, pcid, tagOf, datumOf}
+use Rattle.rules.specs.Memory.{Memory, entryAt}
+use Rattle.rules.specs.Entries.{allows, everything}
+use Rattle.rules.specs.Walk.{End, reached, stuck, pageIf, judged, Walked, walk, reachIn, top}
+use Rattle.rules.specs.Buffer.{matches, hit, miss, find, serves, hitAddress, dropped, filled}
+use Rattle.rules.specs.Answers.{answerOf}
+use Rattle.rules.specs.Refusals.{translate, isUnfit, noAddress, refusal}
+use Rattle.rules.specs.Calls.{After, accessOf, served, servedIf, walked, looked, translated, Outcome, encoded, accepted, byNumber}
+use Rattle.rules.specs.declared.Size.{Size}
+use Rattle.rules.specs.declared.Control.{Control}
+use Rattle.rules.specs.declared.Access.{Access}
+use Rattle.rules.specs.declared.Rights.{Rights}
+use Rattle.rules.specs.declared.Cause.{Cause}
+use Rattle.rules.specs.declared.Found.{Found}
+use Rattle.rules.specs.declared.Found.the-variants.{Page, Fault}
+use Rattle.rules.specs.declared.Answer.{Answer}
+use Rattle.rules.specs.declared.Answer.the-variants.{Address, Refused}
+use Rattle.rules.proofs.SizeLaws.{size-of, base-lt, base-low}
+use Rattle.rules.proofs.SlotLaws.{nothing-dropped}
+use Rattle.rules.proofs.WalkLaws.{LeafLevel, LeafBase, leaf-level, leaf-base}
+use Rattle.rules.proofs.PlaceLaws.{IsImage, width-at, flags-at, cr3-at, datum-at}
+use Rattle.walk.specs.Packed.{Ready}
+use Rattle.buffer.specs.declared.look.Place.{Place}
+use Rattle.buffer.specs.declared.look.Place.the-variants.{At, Nowhere}
+use Rattle.buffer.specs.Look.{hitOf, Looks}
+use Rattle.buffer.specs.Fill.{filledAt}
+use Rattle.buffer.specs.Drops.{droppedIn}
+use Rattle.buffer.proofs.DropLaws.{image-dropped, says-dropped}
+use Rattle.translator.specs.Contract.{IsSpace, Translates, Usable, Gives, missed, Fits}
+use Rattle.translator.proofs.Checks.{fit-wide, fit-narrow}
+use Rattle.translator.proofs.Calling.{fits, call-image}
+use Rattle.translator.proofs.Numbers.{length-in}
+
+-- ---- what a walk goes by
+pub over-root : (b : List ℕ) (w : ℕ) → Usable b → w ≡ wordAt b 0 → 12 ≤ w
+over-root b w u e = omega (arith, u .wide, width-at b)
+
+pub in-word : (b : List ℕ) (w : ℕ) → Usable b → w ≡ wordAt b 0 → w < 64
+in-word b w u e = omega (arith, u .narrow, width-at b)
+
+pub control-is : (b : List ℕ) (w f v n p : ℕ) → w ≡ wordAt b 0 → f ≡ wordAt b 8 → v ≡ wordAt b 16 → n ≡ part w 12 v → IsSpace b p
+    → _≡_ {A = Control} (record { width = w; flags = f; root = n; pcid = p }) (control (decode b))
+control-is b w f v n p hw hf hv hn sp =
+    rw (← sp .current) (rw (width-at b, flags-at b, cr3-at b, ← hw, ← hf, ← hv, ← hn))
+
+pub walk-ready : (b : List ℕ) (mem : Memory) (c : Control) → Usable b → length mem % 8 ≡ 0 → c ≡ control (decode b) → Ready c mem
+walk-ready b mem c u h e =
+    rw e
+    (record {
+      wide = u .wide;
+      narrow = u .narrow;
+      low = base-lt 1 (decode b .width) (decode b .cr3) (u .narrow) (omega arith);
+      aligned = omega (arith, base-low 1 (decode b .width) (decode b .cr3) (omega arith));
+      whole = h;
+    })
+
+-- ---- what a walk finds is in range
+judged-fits : (c : Control) (k : Access) (w : End) (n : ℕ) → LeafLevel w → LeafBase w → Fits (judged c k w n)
+judged-fits c k (reached p) n l h = go (allows c k (p .rights))
+  where
+    go : (b : Bool) → Fits (pageIf b k p n)
+    go true = (h .1, l)
+    go false = tt
+judged-fits c k (stuck cause level) n l h = tt
+
+pub found-fits : (b : List ℕ) (c : Control) (k : Access) (a : ℕ) (mem mem′ : Memory) (f : Found) → Usable b → c ≡ control (decode b)
+    → _≡_ {A = Walked} (record { found = f; memory = mem′ }) (walk c k a mem) → Fits f
+found-fits b c k a mem mem′ f u e w =
+    let narrow : c .width ≤ 52 = rw e (u .narrow) in
+    let q : f ≡ walk c k a mem .found = ap (λ (x : Walked). x .found) w in
+    subst Fits (sym q)
+    (judged-fits c k (reachIn mem c a .end) (reachIn mem c a .read)
+    (leaf-level (entryAt mem) c a (top c) (c .root) everything) (leaf-base (entryAt mem) c a (top c) (c .root) everything narrow))
+
+-- ---- what it finds is kept
+pub kept-page : (f : Found) (base level n : ℕ) (r : Rights) (g d : Bool) (z : Size) (b b′ : List ℕ) (a p number set w tag datum : ℕ) (q : Bool)
+    → f ≡ Page base level r g d n → z ≡ sizeAt level → number ≡ pageNumber z a → set ≡ z .first + number % z .sets
+    → w ≡ wordAt b 8 → q ≡ isOn 2 w → IsSpace b p → tag ≡ tagOf (q && g) p number → datum ≡ datumOf r d base
+    → b′ ≡ encode (filledAt set tag datum (decode b)) → b′ ≡ encode (filled (decode b) a f)
+kept-page f base level n r g d z b b′ a p number set w tag datum q e size num hs hw hq sp ht hd k =
+    let hg : q ≡ isOn 2 (decode b .flags) = rw (flags-at b, ← hw) hq in
+    rw (e, ← size, ← num, ← hs, ← hg, ← sp .current, ← ht, ← hd) k
+
+pub kept-fault : (f : Found) (cause : Cause) (level n a : ℕ) (b : List ℕ) → f ≡ Fault cause level n → IsImage b → b ≡ encode (filled (decode b) a f)
+kept-fault f cause level n a b e u = rw e (sym (u .says))
+
+pub misses : (b b′ : List ℕ) (mem mem′ : Memory) (c : Control) (k : Access) (a : ℕ) (f : Found) (r : Answer) → c ≡ control (decode b)
+    → _≡_ {A = Walked} (record { found = f; memory = mem′ }) (walk c k a mem) → b′ ≡ encode (filled (decode b) a f)
+    → ((c : Control) → r ≡ answerOf c k a f) → Gives (missed (decode b) mem k a) b′ mem′ r
+misses b b′ mem mem′ c k a f r e w i h =
+    let v : _≡_ {A = Walked} (record { found = f; memory = mem′ }) (walk (control (decode b)) k a mem) = w ∙ ap (λ (x : Control). walk x k a mem) e in
+    let q : f ≡ walk (control (decode b)) k a mem .found = ap (λ (x : Walked). x .found) v in
+    record {
+      answer = h (control (decode b)) ∙ ap (answerOf (control (decode b)) k a) q;
+      image = i ∙ ap (λ (x : Found). encode (filled (decode b) a x)) q;
+      memory = ap (λ (x : Walked). x .memory) v;
+    }
+
+-- ---- a held page: one of the hundred slots
+module _ (b : List ℕ) (a i l : ℕ) (o : Place) (looks : Looks b a o) (e : o ≡ At i l) where
+  found-at : Looks b a (At i l)
+  found-at = subst (Looks b a) e looks
+
+  pub slot-fits : i * 16 < 2 ^ 64
+  slot-fits = omega (arith, found-at .right .0)
+
+  pub datum-fits : 40 + i * 16 < 2 ^ 64
+  datum-fits = omega (arith, found-at .right .0)
+
+  pub datum-in : length b ≡ 2048 → 40 + i * 16 + 8 ≤ length b
+  datum-in h = omega (arith, found-at .right .0)
+
+  found-length : (1 ≤ l) × (l ≤ 2 ^ 30)
+  found-length = rw (found-at .right .1) (length-in (sizeOf i) (size-of i))
+
+  pub length-pos : 1 ≤ l
+  length-pos = found-length .0
+
+  pub length-low : l ≤ 2 ^ 30
+  length-low = found-length .1
+
+base-is : (z : Size) (d : ℕ) → Is z → d % 2 ^ 52 / z .length * z .length ≡ part 52 (shift (z .level)) d
+base-is z d is-small = omega arith
+base-is z d is-middle = omega arith
+base-is z d is-large = omega arith
+
+module _ (b : List ℕ) (mem : Memory) (k : Access) (a i l d w : ℕ) (o : Place) (v : Bool) (looks : Looks b a o) (e : o ≡ At i l)
+    (hd : d ≡ wordAt b (40 + i * 16)) (hw : w ≡ wordAt b 8) (hv : (c : Control) → c .flags ≡ w → v ≡ serves c k d) where
+  held-datum : d ≡ decode b .slots i .datum
+  held-datum = hd ∙ sym (datum-at b i (found-at b a i l o looks e .right .0))
+
+  found-slot : find (decode b) a ≡ hit i
+  found-slot = sym (found-at b a i l o looks e .first)
+
+  found-serves : v ≡ serves (control (decode b)) k (decode b .slots i .datum)
+  found-serves = hv (control (decode b)) (flags-at b ∙ sym hw) ∙ ap (serves (control (decode b)) k) held-datum
+
+  looked-is : looked (decode b) mem k a (find (decode b) a) ≡ servedIf v (decode b) mem k a i
+  looked-is = ap (looked (decode b) mem k a) found-slot ∙ ap (λ (x : Bool). servedIf x (decode b) mem k a i) (sym found-serves)
+
+  pub serves-held : v ≡ true → IsImage b → (x : ℕ) → x ≡ d % 2 ^ 52 / l * l + a % l
+      → Gives (looked (decode b) mem k a (find (decode b) a)) b mem (Address x l 0)
+  serves-held t u x h =
+      let q : l ≡ sizeOf i .length = found-at b a i l o looks e .right .1 in
+      let m : x ≡ hitAddress (sizeOf i) (decode b .slots i .datum) a = h ∙ rw (q, held-datum, base-is (sizeOf i) (decode b .slots i .datum) (size-of i)) in
+      let g : looked (decode b) mem k a (find (decode b) a) ≡ served (decode b) mem a i = looked-is ∙ ap (λ (x : Bool). servedIf x (decode b) mem k a i) t in
+      rw g (record { answer = λ j. Address (m j) (q j) 0; image = sym (u .says); memory = refl })
+
+  pub walks-again : v ≡ false → IsImage b → (p : ℕ) (b₁ b₂ : List ℕ) (mem′ : Memory) (r : Answer) → IsSpace b p → b₁ ≡ droppedIn (matches p a) b
+      → Gives (missed (decode b₁) mem k a) b₂ mem′ r → Gives (looked (decode b) mem k a (find (decode b) a)) b₂ mem′ r
+  walks-again t u p b₁ b₂ mem′ r sp h g =
+      let s : decode b₁ ≡ dropped (matches (pcid (decode b)) a) (decode b) =
+      ap decode h ∙ says-dropped (matches p a) b u ∙ ap (λ (y : ℕ). dropped (matches y a) (decode b)) (sp .current) in
+      let n : missed (decode b₁) mem k a ≡ walked (decode b) mem k a = ap (λ (x : Image). missed x mem k a) s in
+      let m : looked (decode b) mem k a (find (decode b) a) ≡ walked (decode b) mem k a = looked-is ∙ ap (λ (x : Bool). servedIf x (decode b) mem k a i) t in
+      subst (λ (x : After). Gives x b₂ mem′ r) (n ∙ sym m) g
+
+pub walks-first : (b b′ : List ℕ) (mem mem′ : Memory) (k : Access) (a : ℕ) (o : Place) (r : Answer) → Looks b a o → o ≡ Nowhere
+    → Gives (missed (decode b) mem k a) b′ mem′ r → Gives (looked (decode b) mem k a (find (decode b) a)) b′ mem′ r
+walks-first b b′ mem mem′ k a o r looks e g =
+    let h : find (decode b) a ≡ miss = sym (looks .first) ∙ ap hitOf e in
+    let n : walked (decode b) mem k a ≡ missed (decode b) mem k a =
+    ap (λ (x : Image). record { answer = answerOf (control (decode b)) k a (walk (control (decode b)) k a mem .found); image = filled x a (walk (control (decode b)) k a mem .found); memory = walk (control (decode b)) k a mem .memory }) (nothing-dropped (decode b) a h) in
+    subst (λ (x : After). Gives x b′ mem′ r) (sym (ap (looked (decode b) mem k a) h ∙ n)) g
+
+-- ---- an image out of which something was dropped
+pub usable-dropped : (q : ℕ → ℕ → Bool) (b b₁ : List ℕ) → Usable b → b₁ ≡ droppedIn q b → Usable b₁
+usable-dropped q b b₁ u h =
+    let s : decode b₁ ≡ dropped q (decode b) = ap decode h ∙ says-dropped q b (u .image) in
+    let w : decode b₁ .width ≡ decode b .width = ap (λ (x : Image). x .width) s in
+    record { image = image-dropped q b b₁ (u .image) h; wide = rw w (u .wide); narrow = rw w (u .narrow) }
+
+pub space-dropped : (q : ℕ → ℕ → Bool) (b b₁ : List ℕ) (p : ℕ) → Usable b → IsSpace b p → b₁ ≡ droppedIn q b → IsSpace b₁ p
+space-dropped q b b₁ p u sp h =
+    let s : decode b₁ ≡ dropped q (decode b) = ap decode h ∙ says-dropped q b (u .image) in
+    record { current = sp .current ∙ sym (ap pcid s); low = sp .low }
+
+-- ---- the call
+whole-pages : (u v : Bool) (n x : ℕ) → cond u 2 (cond v 3 (cond (not (eqb n 0)) 4 x)) ≡ 0 → n ≡ 0
+whole-pages true v n x h = absurd (omega arith)
+whole-pages false true n x h = absurd (omega arith)
+whole-pages false false n x h = eqb-true n 0 (go (eqb n 0) h)
+  where
+    go : (o : Bool) → _≡_ {A = ℕ} (cond (not o) 4 x) 0 → o ≡ true
+    go true e = refl
+    go false e = absurd (omega arith)
+
+module _ (b : List ℕ) (mem : Memory) (k a n : ℕ) (h : n ≡ refusal b mem (translate k a)) where
+  pub refuses-it : (n ≡ 0 → ⊥) → Translates (translate k a) b b mem mem (Refused n)
+  refuses-it g = record { outcome = go n h g }
+    where
+      go : (m : ℕ) → m ≡ refusal b mem (translate k a) → (m ≡ 0 → ⊥)
+          → _≡_ {A = Outcome} (record { answer = Refused m; image = b; memory = mem }) (byNumber b mem (translate k a) (refusal b mem (translate k a)))
+      go zero e f = absurd (f refl)
+      go (suc m) e f = ap (byNumber b mem (translate k a)) e
+
+  module _ (z : n ≡ 0) where
+    fit : isUnfit b ≡ false
+    fit = fits (translate k a) b mem tt (sym h ∙ z)
+
+    pub use-image : AreBytes b → Usable b
+    use-image bytes =
+        record {
+          image = call-image (translate k a) b mem n tt bytes h z;
+          wide = fit-wide b (isUnfit b) refl fit;
+          narrow = fit-narrow b (isUnfit b) refl fit;
+        }
+
+    pub whole : length mem % 8 ≡ 0
+    whole = omega (arith, whole-pages (isUnfit b) (ltb 5 k) (length mem % 4096) (cond (noAddress (decode b) a) 5 0) (sym h ∙ z))
+
+    accepts-it : (b′ : List ℕ) (mem′ : Memory) (r : Answer) → _≡_ {A = Outcome} (record { answer = r; image = b′; memory = mem′ }) (encoded (accepted (decode b) mem (translate k a)))
+        → Translates (translate k a) b b′ mem mem′ r
+    accepts-it b′ mem′ r e = record { outcome = e ∙ ap (byNumber b mem (translate k a)) (sym z ∙ h) }
+
+    pub pages : (w : ℕ) (p : Bool) (t : Access) (b′ : List ℕ) (mem′ : Memory) (r : Answer) → w ≡ wordAt b 8 → p ≡ isOn 0 w → p ≡ true → t ≡ accessOf k
+        → Gives (looked (decode b) mem t a (find (decode b) a)) b′ mem′ r → Translates (translate k a) b b′ mem mem′ r
+    pages w p t b′ mem′ r hw hp on ht g =
+        let o : pg (decode b .flags) ≡ true = ap (isOn 0) (flags-at b ∙ sym hw) ∙ sym hp ∙ on in
+        accepts-it b′ mem′ r
+        ((λ j. record { answer = g .answer j; image = g .image j; memory = g .memory j })
+        ∙ ap (λ (x : Access). encoded (looked (decode b) mem x a (find (decode b) a))) ht
+        ∙ ap (λ (x : Bool). encoded (translated x (decode b) mem (accessOf k) a)) (sym o))
+
+    pub flat : (w : ℕ) (p : Bool) → w ≡ wordAt b 8 → p ≡ isOn 0 w → p ≡ false → IsImage b → Translates (translate k a) b b mem mem (Address a 0 0)
+    flat w p hw hp off u =
+        let o : pg (decode b .flags) ≡ false = ap (isOn 0) (flags-at b ∙ sym hw) ∙ sym hp ∙ off in
+        accepts-it b mem (Address a 0 0)
+        ((λ j. record { answer = Address a 0 0; image = sym (u .says) j; memory = mem })
+        ∙ ap (λ (x : Bool). encoded (translated x (decode b) mem (accessOf k) a)) (sym o))
