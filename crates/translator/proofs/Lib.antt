@@ -2,3 +2,4 @@ pub mod Checks
 pub mod Calling
 pub mod Numbers
 pub mod Translating
+pub mod Unique

@@ -9,13 +9,13 @@ size-requires : tie.Need-size-requires
 size-requires c κs = search needs
 
 drop-page-requires : tie.Need-drop-page-requires
-drop-page-requires c κs = (search needs, (search is-4k, search needs))
+drop-page-requires c κs = (search needs, (search (is-4k, is-2m, is-1g), search needs))
 
 size-requires-2 : tie.Need-size-requires-2
 size-requires-2 c κs = search needs
 
 drop-page-requires-2 : tie.Need-drop-page-requires-2
-drop-page-requires-2 c κs = (search image-dropped, (search is-2m, search needs))
+drop-page-requires-2 c κs = (search image-dropped, (search (is-4k, is-2m, is-1g), search needs))
 
 size-requires-3 : tie.Need-size-requires-3
 size-requires-3 c κs = search needs
@@ -25,7 +25,7 @@ drop-page-requires-3 c κs =
     let two = c .before .before .before .before in
     let one = two .before .before .before .before .before in
     let first = image-dropped _ _ _ (one .before .before .before .before .pre .0) (one .drop-page .ensures) in
-    (image-dropped _ _ _ first (two .drop-page2 .ensures), (search is-1g, search needs))
+    (image-dropped _ _ _ first (two .drop-page2 .ensures), (search (is-4k, is-2m, is-1g), search needs))
 
 same-length : tie.Need-same-length
 same-length c = search needs

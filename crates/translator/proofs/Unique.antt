@@ -1,0 +1,19 @@
+-- A contract admits one outcome: two programs that keep it leave the same answer, the same bytes and the same memory.
+use mathlib.Core.Path.{_≡_}
+use mathlib.Core.List.{List}
+use Prim.Native.Nat.{ℕ}
+use Rattle.rules.specs.Memory.{Memory}
+use Rattle.rules.specs.Refusals.{Request}
+use Rattle.rules.specs.Calls.{Outcome}
+use Rattle.rules.specs.declared.Answer.{Answer}
+use Rattle.rules.proofs.CallLaws.{one-outcome}
+use Rattle.translator.specs.Contract.{Leaves, Translates}
+
+module _ (q : Request) (b b₁ b₂ : List ℕ) (r₁ r₂ : Answer) where
+  pub leaves-one : Leaves q b b₁ r₁ → Leaves q b b₂ r₂ → (mem : Memory)
+      → _≡_ {A = Outcome} (record { answer = r₁; image = b₁; memory = mem }) (record { answer = r₂; image = b₂; memory = mem })
+  leaves-one h g mem = one-outcome b mem q _ _ (h .outcome mem) (g .outcome mem)
+
+  pub translates-one : (mem mem₁ mem₂ : Memory) → Translates q b b₁ mem mem₁ r₁ → Translates q b b₂ mem mem₂ r₂
+      → _≡_ {A = Outcome} (record { answer = r₁; image = b₁; memory = mem₁ }) (record { answer = r₂; image = b₂; memory = mem₂ })
+  translates-one mem mem₁ mem₂ h g = one-outcome b mem q _ _ (h .outcome) (g .outcome)
