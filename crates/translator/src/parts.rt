@@ -1,9 +1,8 @@
-// What a translation goes by and what it leaves, made of numbers: control, access, a slot's two words, the address of a hit, the code of a fault.
+// The numbers of a translation: the access kind, a slot's two words, whether a held page serves and its address, the code of a fault, the answer.
 ghost use mathlib.Core.Path.{_≡_};
 ghost use Prim.Native.Nat.{_+_, _*_, _/_, _%_, _^_, _≤_, _<_};
-ghost use lib.ListN.{length};
 ghost use Rattle.rules.specs.Bits.{one as oneOf};
-ghost use Rattle.rules.specs.Image.{control, tagOf, datumOf};
+ghost use Rattle.rules.specs.Image.{tagOf, datumOf};
 ghost use Rattle.rules.specs.Entries.{allows};
 ghost use Rattle.rules.specs.Buffer.{serves as servesOf};
 ghost use Rattle.rules.specs.Answers.{code as codeOf, answerOf};
@@ -13,7 +12,6 @@ ghost use Rattle.translator.specs.Contract.{Fits};
 use rules::Access;
 use rules::Answer;
 use rules::Cause;
-use rules::Control;
 use rules::Found;
 use rules::Rights;
 
