@@ -13,7 +13,7 @@ use Rattle.rules.specs.Bits.{AreBytes, isOn, wordAt, wordPut}
 use Rattle.rules.specs.Image.{Image, started, encode, decode, control, pg, pcide, pcid}
 use Rattle.rules.specs.Memory.{Memory}
 use Rattle.rules.specs.Refusals.{Request, start, translate, invlpg, invpcid, writeCr3, writeMode, canonical, isLong, isOutside, isUnfit, noMode, noInvpcid, refusal}
-use Rattle.rules.specs.Calls.{withCr3, withFlags, sameMode, invpcidDrops, accepted, done, Outcome, encoded, byNumber}
+use Rattle.rules.specs.Calls.{withCr3, withFlags, isSame, sameMode, invpcidDrops, accepted, done, Outcome, encoded, byNumber}
 use Rattle.rules.specs.Buffer.{matches, others, dropped}
 use Rattle.rules.specs.declared.Control.{Control}
 use Rattle.rules.specs.declared.Answer.{Answer}
@@ -246,3 +246,13 @@ spaced b f r k hf hr hk t =
 
 pub spaceless : (b : List ℕ) (f : ℕ) (k : Bool) → f ≡ wordAt b 8 → k ≡ isOn 3 f → k ≡ false → IsSpace b 0
 spaceless b f k hf hk t = record { current = rw (flags-at b, ← hf, ← hk, t); low = omega arith }
+
+-- ---- same_mode: flag by flag
+pub same-mode : (v f : ℕ) (s₀ s₂ s₃ s₄ a₀ a₂ a₃ a₄ b₀ b₂ b₃ b₄ : Bool)
+    → s₀ ≡ isSame a₀ b₀ → a₀ ≡ isOn 0 v → b₀ ≡ isOn 0 f
+    → s₂ ≡ isSame a₂ b₂ → a₂ ≡ isOn 2 v → b₂ ≡ isOn 2 f
+    → s₃ ≡ isSame a₃ b₃ → a₃ ≡ isOn 3 v → b₃ ≡ isOn 3 f
+    → s₄ ≡ isSame a₄ b₄ → a₄ ≡ isOn 4 v → b₄ ≡ isOn 4 f
+    → (s₀ && s₂ && s₃ && s₄) ≡ sameMode v f
+same-mode v f s₀ s₂ s₃ s₄ a₀ a₂ a₃ a₄ b₀ b₂ b₃ b₄ e₀ p₀ q₀ e₂ p₂ q₂ e₃ p₃ q₃ e₄ p₄ q₄ =
+    rw (e₀, e₂, e₃, e₄, p₀, q₀, p₂, q₂, p₃, q₃, p₄, q₄)

@@ -1,7 +1,7 @@
 -- The ways through the checks: what each return has to show, from the tests on its way. The image's words are read where its parts stand.
 use Prim.Native.Nat.{ℕ, zero, suc, _+_, _/_, _%_, _^_, _≤_, _<_}
 use mathlib.Core.Path.{_≡_, refl, ap, sym, _∙_}
-use mathlib.Core.Bool.{Bool, true, false, cond, _&&_, _||_, not, and-true, true≢false}
+use mathlib.Core.Bool.{Bool, true, false, cond, _&&_, _||_, not, and-true, or-true, or-false, true≢false}
 use mathlib.Core.List.{List, []}
 use native.Mathlib.Omega.{arith}
 use native.Mathlib.Numerals.{add-one}
@@ -9,7 +9,7 @@ use lib.ListN.{length, getD, take, drop, length-drop}
 use lib.Seq.{take-suc, take-all}
 use lib.Dec.{eqb, leb, ltb}
 use lib.Bits.{bitOr, or-add-and, and-le-r}
-use borrow.Author.Tests.{eq-eqb, ne-eqb, eqb-true, lt-ltb, le-ltb, ltb-false, not-false}
+use borrow.Author.Tests.{eq-eqb, ne-eqb, eqb-true, lt-ltb, le-ltb, ltb-false, le-leb, lt-leb, not-false}
 use Rattle.rules.specs.Bits.{wordsOf, isOn, part, wordAt}
 use Rattle.rules.specs.Image.{decode, control}
 use Rattle.rules.specs.Memory.{Memory}
@@ -34,11 +34,18 @@ all-seen s i a h e = e ∙ ap allZero (take-all i s h)
 pub not-long : (b : List ℕ) → (length b ≡ 2048 → ⊥) → true ≡ isUnfit b
 not-long b h = rw (ne-eqb (length b) 2048 h)
 
-pub unfit-is : (b : List ℕ) (w f v n : ℕ) (o : Bool) → length b ≡ 2048 → w ≡ wordAt b 0 → f ≡ wordAt b 8 → v ≡ wordAt b 24 → o ≡ isOutside w
-    → eqb n 0 ≡ allZero (take 416 (drop 1632 b)) → (o || leb 32 f || leb 0x4000000000000 v || not (eqb n 0)) ≡ isUnfit b
-unfit-is b w f v n o h hw hf hv ho hn =
-    let t : take 416 (drop 1632 b) ≡ drop 1632 b = take-all 416 (drop 1632 b) (rw length-drop (omega arith)) in
-    rw (eq-eqb (length b) 2048 h, width-at b, flags-at b, victims-at b, zero-tail 256 204 b h (omega arith), ho, hw, hf, hv, hn, t)
+-- the tail that was gathered is the words from 204 on
+module _ (b : List ℕ) (n : ℕ) (h : length b ≡ 2048) (hn : eqb n 0 ≡ allZero (take 416 (drop 1632 b))) where
+  tail-is : allZero (drop 204 (wordsOf 256 b)) ≡ eqb n 0
+  tail-is = zero-tail 256 204 b h (omega arith) ∙ ap allZero (sym (take-all 416 (drop 1632 b) (rw length-drop (omega arith)))) ∙ sym hn
+
+  pub not-clear : (n ≡ 0 → ⊥) → true ≡ isUnfit b
+  not-clear g = sym (ap (λ (x : Bool). not (isLong b) || isOutside (decode b .width) || leb (2 ^ 5) (decode b .flags) || leb (2 ^ 50) (decode b .victims) || not x) (tail-is ∙ ne-eqb n 0 g) ∙ or-true (not (isLong b) || isOutside (decode b .width) || leb (2 ^ 5) (decode b .flags) || leb (2 ^ 50) (decode b .victims)))
+
+  pub unfit-is : n ≡ 0 → (w f v : ℕ) (o : Bool) → w ≡ wordAt b 0 → f ≡ wordAt b 8 → v ≡ wordAt b 24 → o ≡ isOutside w
+      → (o || leb 32 f || leb 0x4000000000000 v) ≡ isUnfit b
+  unfit-is g w f v o hw hf hv ho =
+      rw (tail-is, eq-eqb n 0 g, eq-eqb (length b) 2048 h, width-at b, flags-at b, victims-at b, ← hw, ← hf, ← hv, ← ho) (sym (or-false _))
 
 pub or-left : (p q : Bool) → (p || q) ≡ false → p ≡ false
 or-left true q h = h
@@ -68,11 +75,20 @@ fit-tail b h =
 
 -- ---- the conditions, over the words that were read
 module _ (b : List ℕ) (a f : ℕ) (hf : f ≡ wordAt b 8) where
-  pub paged : (p q : Bool) → p ≡ isOn 0 f → p ≡ true → ((c : Control) → q ≡ canonical c a) → not q ≡ noAddress (decode b) a
-  paged p q hp t hq = rw (flags-at b, ← hf, ← hp, t, ← hq (control (decode b)))
+  module _ (p : Bool) (hp : p ≡ isOn 0 f) where
+    module _ (on : p ≡ true) (q : Bool) (hq : (c : Control) → q ≡ canonical c a) where
+      pub paged-taken : q ≡ true → _≡_ {A = ℕ} 0 (cond (noAddress (decode b) a) 5 0)
+      paged-taken t = rw (flags-at b, ← hf, ← hp, on, ← hq (control (decode b)), t)
 
-  pub unpaged : (p : Bool) → p ≡ isOn 0 f → p ≡ false → leb 0x100000000 a ≡ noAddress (decode b) a
-  unpaged p hp t = rw (flags-at b, ← hf, ← hp, t)
+      pub paged-refused : q ≡ false → _≡_ {A = ℕ} 5 (cond (noAddress (decode b) a) 5 0)
+      paged-refused t = rw (flags-at b, ← hf, ← hp, on, ← hq (control (decode b)), t)
+
+    module _ (off : p ≡ false) where
+      pub flat-refused : 0x100000000 ≤ a → _≡_ {A = ℕ} 5 (cond (noAddress (decode b) a) 5 0)
+      flat-refused h = rw (flags-at b, ← hf, ← hp, off, le-leb 0x100000000 a h)
+
+      pub flat-taken : a < 0x100000000 → _≡_ {A = ℕ} 0 (cond (noAddress (decode b) a) 5 0)
+      flat-taken h = rw (flags-at b, ← hf, ← hp, off, lt-leb 0x100000000 a h)
 
   pub no-cr3-is : (w v n : ℕ) (p q : Bool) → w ≡ wordAt b 0 → n ≡ part 63 w v → p ≡ isOn 3 f → q ≡ isOn 63 v
       → (not (eqb n 0) || (q && not p)) ≡ noCr3 (decode b) v
@@ -120,8 +136,5 @@ module _ (b : List ℕ) (mem : Memory) (k a : ℕ) (o : Bool) (fit : o ≡ isUnf
   pub ragged : k ≤ 5 → (length mem % 4096 ≡ 0 → ⊥) → 4 ≡ refusal b mem (translate k a)
   ragged h r = rw (← fit, yes-fit, le-ltb 5 k h, ne-eqb (length mem % 4096) 0 r)
 
-  pub no-place : k ≤ 5 → length mem % 4096 ≡ 0 → (p : Bool) → p ≡ noAddress (decode b) a → p ≡ true → 5 ≡ refusal b mem (translate k a)
-  no-place h r p e t = rw (← fit, yes-fit, le-ltb 5 k h, eq-eqb (length mem % 4096) 0 r, ← e, t)
-
-  pub taken : k ≤ 5 → length mem % 4096 ≡ 0 → (p : Bool) → p ≡ noAddress (decode b) a → p ≡ false → 0 ≡ refusal b mem (translate k a)
-  taken h r p e t = rw (← fit, yes-fit, le-ltb 5 k h, eq-eqb (length mem % 4096) 0 r, ← e, t)
+  pub by-address : k ≤ 5 → length mem % 4096 ≡ 0 → (n : ℕ) → n ≡ cond (noAddress (decode b) a) 5 0 → n ≡ refusal b mem (translate k a)
+  by-address h r n e = rw (← fit, yes-fit, le-ltb 5 k h, eq-eqb (length mem % 4096) 0 r) e

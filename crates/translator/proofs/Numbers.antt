@@ -1,14 +1,17 @@
 -- The numbers of a translation, from what its functions' calls tell.
-use Prim.Native.Nat.{ℕ, _+_, _*_, _/_, _%_, _^_, _≤_, _<_}
-use mathlib.Core.Path.{_≡_, sym, subst}
-use mathlib.Core.Bool.{Bool, _&&_, _||_, not}
+use Prim.Native.Nat.{ℕ, zero, suc, _+_, _*_, _/_, _%_, _^_, _≤_, _<_}
+use mathlib.Core.Path.{_≡_, refl, ap, sym, _∙_, subst}
+use mathlib.Core.Bool.{Bool, true, false, _&&_, _||_, not}
 use native.Mathlib.Omega.{arith}
 use native.Mathlib.Nat.{mod-lt, div-add-mod}
+use lib.Dec.{eqb, leb}
+use lib.Bits.{bitAnd}
 use Rattle.rules.specs.Bits.{isOn, one}
 use Rattle.rules.specs.Sizes.{Is, is-small, is-middle, is-large, sizeAt}
-use Rattle.rules.specs.Entries.{allows}
+use Rattle.rules.specs.Image.{wp}
 use Rattle.rules.specs.Buffer.{serves}
-use Rattle.rules.specs.Answers.{code, answerOf}
+use Rattle.rules.specs.Answers.{code}
+use Rattle.rules.specs.Calls.{accessOf}
 use Rattle.rules.specs.declared.Size.{Size}
 use Rattle.rules.specs.declared.Control.{Control}
 use Rattle.rules.specs.declared.Access.{Access}
@@ -16,20 +19,65 @@ use Rattle.rules.specs.declared.Rights.{Rights}
 use Rattle.rules.specs.declared.Cause.{Cause}
 use Rattle.rules.specs.declared.Cause.the-variants.{NotPresent, Reserved, Protection}
 use Rattle.rules.specs.declared.Found.{Found}
-use Rattle.rules.specs.declared.Found.the-variants.{Page, Fault}
-use Rattle.rules.specs.declared.Answer.the-variants.{Address, PageFault}
+use Rattle.rules.specs.declared.Found.the-variants.{Page}
+use Rattle.rules.proofs.BitLaws.{one-le, on-one}
 use Rattle.rules.proofs.SizeLaws.{size-at}
-use Rattle.translator.specs.Contract.{Fits}
+use Rattle.walk.proofs.Masks.{same, and-one, and-flag}
+use Rattle.translator.specs.Contract.{Fits, neededFrom, neededOf}
 
--- ---- rights
-pub may-is : (f : ℕ) (k : Access) (r : Rights) (w : Bool) → w ≡ isOn 1 f → (c : Control) → c .flags ≡ f
-    → ((not (k .user) || r .user) && (not (k .write) || r .writable || (not (k .user) && not w)) && (not (k .fetch) || r .executable)) ≡ allows c k r
-may-is f k r w e c g = rw (g, ← e)
+-- ---- the access, by its kind
+pub access-is : (k : ℕ) → k ≤ 5
+    → _≡_ {A = Access} (record { write = eqb k 1 || eqb k 4; user = leb 3 k; fetch = eqb k 2 || eqb k 5 }) (accessOf k)
+access-is zero h = refl
+access-is (suc zero) h = refl
+access-is (suc (suc zero)) h = refl
+access-is (suc (suc (suc zero))) h = refl
+access-is (suc (suc (suc (suc zero)))) h = refl
+access-is (suc (suc (suc (suc (suc zero))))) h = refl
+access-is (suc (suc (suc (suc (suc (suc k)))))) h = absurd (omega arith)
 
-pub serves-is : (f d : ℕ) (k : Access) (w u x m t : Bool) → w ≡ isOn 0 d → u ≡ isOn 1 d → x ≡ isOn 2 d → t ≡ isOn 3 d
-    → ((c : Control) → c .flags ≡ f → m ≡ allows c k (record { writable = w; user = u; executable = x }))
-    → (c : Control) → c .flags ≡ f → (m && (not (k .write) || t)) ≡ serves c k d
-serves-is f d k w u x m t hw hu hx ht g c e = rw (g c e, hw, hu, hx, ht)
+-- ---- rights: what an access needs is read off one number, and is a conjunction of the datum's bits
+needed-by : (p : Bool) (k : ℕ) → k ≤ 5 → (0x6B2480 + one p * 16) / 2 ^ (4 * k) % 16 ≡ neededFrom p (accessOf k)
+needed-by true zero h = refl
+needed-by true (suc zero) h = refl
+needed-by true (suc (suc zero)) h = refl
+needed-by true (suc (suc (suc zero))) h = refl
+needed-by true (suc (suc (suc (suc zero)))) h = refl
+needed-by true (suc (suc (suc (suc (suc zero))))) h = refl
+needed-by false zero h = refl
+needed-by false (suc zero) h = refl
+needed-by false (suc (suc zero)) h = refl
+needed-by false (suc (suc (suc zero))) h = refl
+needed-by false (suc (suc (suc (suc zero)))) h = refl
+needed-by false (suc (suc (suc (suc (suc zero))))) h = refl
+needed-by p (suc (suc (suc (suc (suc (suc k)))))) h = absurd (omega arith)
+
+pub needed-is : (f k : ℕ) → k ≤ 5 → (0x6B2480 + f / 2 % 2 * 16) / 2 ^ (4 * k) % 16 ≡ neededOf f (accessOf k)
+needed-is f k h = ap (λ (x : ℕ). (0x6B2480 + x * 16) / 2 ^ (4 * k) % 16) (on-one 1 f) ∙ needed-by (wp f) k h
+
+has-bits : (d : ℕ) (w x u t : Bool)
+    → bitAnd d (one w * 8 + (one x * 4 + (one u * 2 + one t))) ≡ one (w && isOn 3 d) * 8 + (one (x && isOn 2 d) * 4 + (one (u && isOn 1 d) * 2 + one (t && isOn 0 d)))
+has-bits d w x u t =
+    rw (
+      and-flag 3 d (one x * 4 + (one u * 2 + one t)) (omega (arith, one-le x, one-le u, one-le t)) w,
+      and-flag 2 d (one u * 2 + one t) (omega (arith, one-le u, one-le t)) x,
+      and-flag 1 d (one t) (omega (arith, one-le t)) u,
+      and-one d t,
+      bit-nought d,
+    )
+  where
+    bit-nought : (d : ℕ) → d % 2 ≡ d / 2 ^ 0 % 2
+    bit-nought d = omega arith
+
+pub serves-is : (f d n : ℕ) (k : Access) → n ≡ neededOf f k → (c : Control) → c .flags ≡ f → eqb (bitAnd d n) n ≡ serves c k d
+serves-is f d n k e c g =
+    rw (e, ← g, has-bits d (k .write) (k .fetch) (k .user) (k .write && (k .user || wp (c .flags))))
+    (same 8
+    (λ w x u p b₃ b₂ b₁ b₀.
+    eqb (one (w && b₃) * 8 + (one (x && b₂) * 4 + (one (u && b₁) * 2 + one ((w && (u || p)) && b₀))))
+    (one w * 8 + (one x * 4 + (one u * 2 + one (w && (u || p))))))
+    (λ w x u p b₃ b₂ b₁ b₀. ((not u || b₁) && (not w || b₀ || (not u && not p)) && (not x || b₂)) && (not w || b₃))
+    refl (k .write) (k .fetch) (k .user) (wp (c .flags)) (isOn 3 d) (isOn 2 d) (isOn 1 d) (isOn 0 d))
 
 -- ---- addresses
 pub base-fits : (d l : ℕ) → 1 ≤ l → d % 2 ^ 52 / l * l < 2 ^ 64
@@ -51,7 +99,7 @@ pub protection : (k : Access) (cause : Cause) (w u x : ℕ) → w ≡ one (k .wr
     → (c : Control) → 1 + (2 * w + 4 * u + 16 * x) ≡ code c k cause
 protection k cause w u x hw hu hx e c = rw (e, ← hw, ← hu, ← hx) (omega arith)
 
--- ---- the answer for a page
+-- ---- the lengths of pages
 pub length-in : (z : Size) → Is z → (1 ≤ z .length) × (z .length ≤ 2 ^ 30)
 length-in z is-small = (omega arith, omega arith)
 length-in z is-middle = (omega arith, omega arith)
@@ -75,10 +123,3 @@ module _ (f : Found) (base level n : ℕ) (r : Rights) (g d : Bool) (z : Size) (
 
   pub page-sum : (a : ℕ) → base + a % z .length < 2 ^ 64
   page-sum a = omega (arith, page-fits .0, page-length .1, mod-lt a (page-length .0))
-
-  pub page-answer : (k : Access) (a : ℕ) (c : Control) → Address (base + a % z .length) (z .length) n ≡ answerOf c k a f
-  page-answer k a c = rw (e, size)
-
-pub fault-answer : (f : Found) (cause : Cause) (level n m : ℕ) → f ≡ Fault cause level n → (k : Access) (a : ℕ)
-    → ((c : Control) → m ≡ code c k cause) → (c : Control) → PageFault cause level m n ≡ answerOf c k a f
-fault-answer f cause level n m e k a h c = rw (e, ← h c)

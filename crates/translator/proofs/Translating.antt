@@ -6,7 +6,7 @@ use mathlib.Core.List.{List}
 use native.Mathlib.Omega.{arith}
 use lib.Dec.{eqb, ltb}
 use lib.ListN.{length}
-use borrow.Author.Tests.{eqb-true}
+use borrow.Author.Tests.{eqb-true, ltb-false}
 use Rattle.rules.specs.Bits.{AreBytes, isOn, part, wordAt}
 use Rattle.rules.specs.Sizes.{Is, is-small, is-middle, is-large, shift, sizeAt, sizeOf, pageNumber}
 use Rattle.rules.specs.Image.{Image, encode, decode, control, pg, pcid, tagOf, datumOf}
@@ -14,7 +14,7 @@ use Rattle.rules.specs.Memory.{Memory, entryAt}
 use Rattle.rules.specs.Entries.{allows, everything}
 use Rattle.rules.specs.Walk.{End, reached, stuck, pageIf, judged, Walked, walk, reachIn, top}
 use Rattle.rules.specs.Buffer.{matches, hit, miss, find, serves, hitAddress, dropped, filled}
-use Rattle.rules.specs.Answers.{answerOf}
+use Rattle.rules.specs.Answers.{code, answerOf}
 use Rattle.rules.specs.Refusals.{translate, isUnfit, noAddress, refusal}
 use Rattle.rules.specs.Calls.{After, accessOf, served, servedIf, walked, looked, translated, Outcome, encoded, accepted, byNumber}
 use Rattle.rules.specs.declared.Size.{Size}
@@ -25,8 +25,8 @@ use Rattle.rules.specs.declared.Cause.{Cause}
 use Rattle.rules.specs.declared.Found.{Found}
 use Rattle.rules.specs.declared.Found.the-variants.{Page, Fault}
 use Rattle.rules.specs.declared.Answer.{Answer}
-use Rattle.rules.specs.declared.Answer.the-variants.{Address, Refused}
-use Rattle.rules.proofs.SizeLaws.{size-of, base-lt, base-low}
+use Rattle.rules.specs.declared.Answer.the-variants.{Address, PageFault, Refused}
+use Rattle.rules.proofs.SizeLaws.{size-of, level-at, base-lt, base-low}
 use Rattle.rules.proofs.SlotLaws.{nothing-dropped}
 use Rattle.rules.proofs.WalkLaws.{LeafLevel, LeafBase, leaf-level, leaf-base}
 use Rattle.rules.proofs.PlaceLaws.{IsImage, width-at, flags-at, cr3-at, datum-at}
@@ -37,7 +37,7 @@ use Rattle.buffer.specs.Look.{hitOf, Looks}
 use Rattle.buffer.specs.Fill.{filledAt}
 use Rattle.buffer.specs.Drops.{droppedIn}
 use Rattle.buffer.proofs.DropLaws.{image-dropped, says-dropped}
-use Rattle.translator.specs.Contract.{IsSpace, Translates, Usable, Gives, missed, Fits}
+use Rattle.translator.specs.Contract.{IsSpace, Translates, Usable, Gives, missed, Fits, Finishes}
 use Rattle.translator.proofs.Checks.{fit-wide, fit-narrow}
 use Rattle.translator.proofs.Calling.{fits, call-image}
 use Rattle.translator.proofs.Numbers.{length-in}
@@ -83,29 +83,47 @@ found-fits b c k a mem mem′ f u e w =
     (judged-fits c k (reachIn mem c a .end) (reachIn mem c a .read)
     (leaf-level (entryAt mem) c a (top c) (c .root) everything) (leaf-base (entryAt mem) c a (top c) (c .root) everything narrow))
 
--- ---- what it finds is kept
-pub kept-page : (f : Found) (base level n : ℕ) (r : Rights) (g d : Bool) (z : Size) (b b′ : List ℕ) (a p number set w tag datum : ℕ) (q : Bool)
-    → f ≡ Page base level r g d n → z ≡ sizeAt level → number ≡ pageNumber z a → set ≡ z .first + number % z .sets
+-- ---- what it finds is kept, and answered
+its-level : (z : Size) → Is z → sizeAt (z .level) ≡ z
+its-level z is-small = refl
+its-level z is-middle = refl
+its-level z is-large = refl
+
+pub kept-page : (base : ℕ) (r : Rights) (g d : Bool) (z : Size) (b b′ : List ℕ) (a p number set w tag datum : ℕ) (q : Bool)
+    → Is z → number ≡ pageNumber z a → set ≡ z .first + number % z .sets
     → w ≡ wordAt b 8 → q ≡ isOn 2 w → IsSpace b p → tag ≡ tagOf (q && g) p number → datum ≡ datumOf r d base
-    → b′ ≡ encode (filledAt set tag datum (decode b)) → b′ ≡ encode (filled (decode b) a f)
-kept-page f base level n r g d z b b′ a p number set w tag datum q e size num hs hw hq sp ht hd k =
+    → b′ ≡ encode (filledAt set tag datum (decode b)) → b′ ≡ encode (filled (decode b) a (Page base (z .level) r g d 0))
+kept-page base r g d z b b′ a p number set w tag datum q is num hs hw hq sp ht hd k =
     let hg : q ≡ isOn 2 (decode b .flags) = rw (flags-at b, ← hw) hq in
-    rw (e, ← size, ← num, ← hs, ← hg, ← sp .current, ← ht, ← hd) k
+    rw (its-level z is, ← num, ← hs, ← hg, ← sp .current, ← ht, ← hd) k
 
-pub kept-fault : (f : Found) (cause : Cause) (level n a : ℕ) (b : List ℕ) → f ≡ Fault cause level n → IsImage b → b ≡ encode (filled (decode b) a f)
-kept-fault f cause level n a b e u = rw e (sym (u .says))
+pub finish-page : (f : Found) (base level n : ℕ) (r : Rights) (g d : Bool) (z : Size) (b b′ : List ℕ) (k : Access) (a : ℕ)
+    → Fits f → f ≡ Page base level r g d n → z ≡ sizeAt level → b′ ≡ encode (filled (decode b) a (Page base (z .level) r g d 0))
+    → Finishes b b′ k a f (Address (base + a % z .length) (z .length) n)
+finish-page f base level n r g d z b b′ k a h e size i =
+    let q : Fits (Page base level r g d n) = subst Fits e h in
+    let l : z .level ≡ level = ap (λ (x : Size). x .level) size ∙ level-at level (q .1 .0) (q .1 .1) in
+    record {
+      image = i ∙ ap (λ (x : ℕ). encode (filled (decode b) a (Page base x r g d n))) l ∙ ap (λ (x : Found). encode (filled (decode b) a x)) (sym e);
+      answer = λ c. rw (e, size);
+    }
 
-pub misses : (b b′ : List ℕ) (mem mem′ : Memory) (c : Control) (k : Access) (a : ℕ) (f : Found) (r : Answer) → c ≡ control (decode b)
-    → _≡_ {A = Walked} (record { found = f; memory = mem′ }) (walk c k a mem) → b′ ≡ encode (filled (decode b) a f)
-    → ((c : Control) → r ≡ answerOf c k a f) → Gives (missed (decode b) mem k a) b′ mem′ r
-misses b b′ mem mem′ c k a f r e w i h =
-    let v : _≡_ {A = Walked} (record { found = f; memory = mem′ }) (walk (control (decode b)) k a mem) = w ∙ ap (λ (x : Control). walk x k a mem) e in
+pub finish-fault : (f : Found) (cause : Cause) (level n m : ℕ) (b : List ℕ) (k : Access) (a : ℕ) → f ≡ Fault cause level n → IsImage b
+    → ((c : Control) → m ≡ code c k cause) → Finishes b b k a f (PageFault cause level m n)
+finish-fault f cause level n m b k a e u h = record { image = rw e (sym (u .says)); answer = λ c. rw (e, ← h c) }
+
+pub misses : (b b′ : List ℕ) (mem mem′ : Memory) (c : Control) (t : ℕ) (k : Access) (a : ℕ) (f : Found) (r : Answer) → c ≡ control (decode b)
+    → k ≡ accessOf t → _≡_ {A = Walked} (record { found = f; memory = mem′ }) (walk c k a mem) → Finishes b b′ k a f r
+    → Gives (missed (decode b) mem (accessOf t) a) b′ mem′ r
+misses b b′ mem mem′ c t k a f r e y w h =
+    subst (λ (x : Access). Gives (missed (decode b) mem x a) b′ mem′ r) y
+    (let v : _≡_ {A = Walked} (record { found = f; memory = mem′ }) (walk (control (decode b)) k a mem) = w ∙ ap (λ (x : Control). walk x k a mem) e in
     let q : f ≡ walk (control (decode b)) k a mem .found = ap (λ (x : Walked). x .found) v in
     record {
-      answer = h (control (decode b)) ∙ ap (answerOf (control (decode b)) k a) q;
-      image = i ∙ ap (λ (x : Found). encode (filled (decode b) a x)) q;
+      answer = h .answer (control (decode b)) ∙ ap (answerOf (control (decode b)) k a) q;
+      image = h .image ∙ ap (λ (x : Found). encode (filled (decode b) a x)) q;
       memory = ap (λ (x : Walked). x .memory) v;
-    }
+    })
 
 -- ---- a held page: one of the hundred slots
 module _ (b : List ℕ) (a i l : ℕ) (o : Place) (looks : Looks b a o) (e : o ≡ At i l) where
@@ -187,6 +205,14 @@ space-dropped q b b₁ p u sp h =
     record { current = sp .current ∙ sym (ap pcid s); low = sp .low }
 
 -- ---- the call
+known-kind : (u : Bool) (k x : ℕ) → cond u 2 (cond (ltb 5 k) 3 x) ≡ 0 → k ≤ 5
+known-kind true k x h = absurd (omega arith)
+known-kind false k x h = ltb-false 5 k (go (ltb 5 k) h)
+  where
+    go : (o : Bool) → _≡_ {A = ℕ} (cond o 3 x) 0 → o ≡ false
+    go true e = absurd (omega arith)
+    go false e = refl
+
 whole-pages : (u v : Bool) (n x : ℕ) → cond u 2 (cond v 3 (cond (not (eqb n 0)) 4 x)) ≡ 0 → n ≡ 0
 whole-pages true v n x h = absurd (omega arith)
 whole-pages false true n x h = absurd (omega arith)
@@ -217,6 +243,9 @@ module _ (b : List ℕ) (mem : Memory) (k a n : ℕ) (h : n ≡ refusal b mem (t
           narrow = fit-narrow b (isUnfit b) refl fit;
         }
 
+    pub known : k ≤ 5
+    known = known-kind (isUnfit b) k _ (sym h ∙ z)
+
     pub whole : length mem % 8 ≡ 0
     whole = omega (arith, whole-pages (isUnfit b) (ltb 5 k) (length mem % 4096) (cond (noAddress (decode b) a) 5 0) (sym h ∙ z))
 
@@ -224,13 +253,12 @@ module _ (b : List ℕ) (mem : Memory) (k a n : ℕ) (h : n ≡ refusal b mem (t
         → Translates (translate k a) b b′ mem mem′ r
     accepts-it b′ mem′ r e = record { outcome = e ∙ ap (byNumber b mem (translate k a)) (sym z ∙ h) }
 
-    pub pages : (w : ℕ) (p : Bool) (t : Access) (b′ : List ℕ) (mem′ : Memory) (r : Answer) → w ≡ wordAt b 8 → p ≡ isOn 0 w → p ≡ true → t ≡ accessOf k
-        → Gives (looked (decode b) mem t a (find (decode b) a)) b′ mem′ r → Translates (translate k a) b b′ mem mem′ r
-    pages w p t b′ mem′ r hw hp on ht g =
+    pub pages : (w : ℕ) (p : Bool) (b′ : List ℕ) (mem′ : Memory) (r : Answer) → w ≡ wordAt b 8 → p ≡ isOn 0 w → p ≡ true
+        → Gives (looked (decode b) mem (accessOf k) a (find (decode b) a)) b′ mem′ r → Translates (translate k a) b b′ mem mem′ r
+    pages w p b′ mem′ r hw hp on g =
         let o : pg (decode b .flags) ≡ true = ap (isOn 0) (flags-at b ∙ sym hw) ∙ sym hp ∙ on in
         accepts-it b′ mem′ r
         ((λ j. record { answer = g .answer j; image = g .image j; memory = g .memory j })
-        ∙ ap (λ (x : Access). encoded (looked (decode b) mem x a (find (decode b) a))) ht
         ∙ ap (λ (x : Bool). encoded (translated x (decode b) mem (accessOf k) a)) (sym o))
 
     pub flat : (w : ℕ) (p : Bool) → w ≡ wordAt b 8 → p ≡ isOn 0 w → p ≡ false → IsImage b → Translates (translate k a) b b mem mem (Address a 0 0)

@@ -1,14 +1,17 @@
 -- What the calls leave, as the rules' call says it.
 use mathlib.Core.Path.{_≡_}
 use mathlib.Core.List.{List}
-use Prim.Native.Nat.{ℕ, _^_, _≤_, _<_}
-use Rattle.rules.specs.Image.{Image, encode, decode, control, pcid}
+use Prim.Native.Nat.{ℕ, _+_, _*_, _^_, _≤_, _<_}
+use mathlib.Core.Bool.{Bool, _&&_, _||_}
+use Rattle.rules.specs.Bits.{one}
+use Rattle.rules.specs.Image.{Image, encode, decode, control, pcid, wp}
 use Rattle.rules.specs.Memory.{Memory}
 use Rattle.rules.specs.Walk.{walk}
 use Rattle.rules.specs.Buffer.{filled}
 use Rattle.rules.specs.Answers.{answerOf}
 use Rattle.rules.specs.Refusals.{Request}
 use Rattle.rules.specs.Calls.{After, Outcome, call}
+use Rattle.rules.specs.declared.Control.{Control}
 use Rattle.rules.specs.declared.Access.{Access}
 use Rattle.rules.specs.declared.Found.{Found}
 use Rattle.rules.specs.declared.Found.the-variants.{Page, Fault}
@@ -54,3 +57,15 @@ missed s mem k a =
 abbrev pub Fits : Found → Type 0
 Fits (Page base level r global dirty n) = (base < 2 ^ 52) × ((1 ≤ level) × (level ≤ 3))
 Fits (Fault cause level n) = Unit {0}
+
+-- a finding is filled into the image, and answered
+pub record Finishes (b b′ : List ℕ) (k : Access) (a : ℕ) (f : Found) (r : Answer) : Type 0 where
+  pub image : b′ ≡ encode (filled (decode b) a f)
+  pub answer : (c : Control) → r ≡ answerOf c k a f
+
+-- the bits of a held page's datum that an access needs: writable, user, executable, and dirty for a write
+abbrev pub neededFrom : Bool → Access → ℕ
+neededFrom protect k = one (k .write) * 8 + (one (k .fetch) * 4 + (one (k .user) * 2 + one (k .write && (k .user || protect))))
+
+abbrev pub neededOf : ℕ → Access → ℕ
+neededOf flags k = neededFrom (wp flags) k

@@ -3,8 +3,9 @@ ghost use mathlib.Core.Path.{_≡_};
 ghost use lib.ListN.{length, replicate};
 ghost use Rattle.rules.specs.Refusals.{start as startOf, invlpg as invlpgOf, invpcid as invpcidOf, writeCr3, writeMode};
 ghost use Rattle.rules.specs.Calls.{isSame, sameMode};
-ghost use Rattle.translator.specs.Contract.{IsSpace, Leaves};
+ghost use Rattle.translator.specs.Contract.{Leaves};
 use crate::check;
+use crate::parts;
 use buffer::drops;
 use rules::Answer;
 
@@ -32,17 +33,6 @@ pub fn start(image: &mut [u8], width: u64) -> Answer
     Answer::Done
 }
 
-// The current address space.
-pub fn pcid_of(image: &[u8]) -> u64
-    requires { ⌜ length (now image) ≡ 2048 ⌝ }
-    ensures { λ r. ⌜ IsSpace (now (image .entry)) r ⌝ }
-{
-    if words::is_on(3, words::read_word(image, 8)) {
-        return words::read_word(image, 16) % 4096;
-    }
-    0
-}
-
 // What is held for an address is dropped.
 pub fn invlpg(image: &mut [u8], a: u64) -> Answer
     ensures { λ r. ⌜ Leaves (invlpgOf a) (now (image .entry)) (now (image .exit)) r ⌝ }
@@ -52,7 +42,7 @@ pub fn invlpg(image: &mut [u8], a: u64) -> Answer
         return Answer::Refused { number };
     }
     if check::is_canonical(a) {
-        let space = pcid_of(image);
+        let space = parts::pcid_of(image);
         drops::drop_matches(image, a, space);
         return Answer::Done;
     }
@@ -95,7 +85,7 @@ pub fn write_cr3(image: &mut [u8], value: u64) -> Answer
     if words::is_on(63, value) {
         return Answer::Done;
     }
-    let space = pcid_of(image);
+    let space = parts::pcid_of(image);
     drops::drop_others(image, space);
     Answer::Done
 }

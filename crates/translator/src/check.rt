@@ -1,6 +1,7 @@
 // Which calls are refused: the lowest number that applies to a call, or 0.
 ghost use mathlib.Core.Path.{_≡_};
 ghost use Prim.Native.Nat.{_≤_};
+ghost use mathlib.Core.Bool.{cond};
 ghost use mathlib.Core.List.{[]};
 ghost use lib.Dec.{eqb};
 ghost use lib.ListN.{length};
@@ -34,11 +35,13 @@ fn is_unfit(image: &[u8]) -> bool
     if image.len() != 2048 {
         return true;
     }
+    if gather(&image[1632..2048]) != 0 {
+        return true;
+    }
     let width = words::read_word(image, 0);
     let flags = words::read_word(image, 8);
     let victims = words::read_word(image, 24);
-    let rest = gather(&image[1632..2048]);
-    is_outside(width) | (32 <= flags) | (0x4_0000_0000_0000 <= victims) | !(rest == 0)
+    is_outside(width) | (32 <= flags) | (0x4_0000_0000_0000 <= victims)
 }
 
 pub fn is_canonical(a: u64) -> bool
@@ -47,14 +50,21 @@ pub fn is_canonical(a: u64) -> bool
     (a < 0x8000_0000_0000) | (0xFFFF_8000_0000_0000 <= a)
 }
 
-fn no_address(image: &[u8], a: u64) -> bool
+// The address's own refusal, or 0. Paging is asked once, and each answer goes its own way.
+fn address_refusal(image: &[u8], a: u64) -> u64
     requires { ⌜ length (now image) ≡ 2048 ⌝ }
-    ensures { λ r. ⌜ r ≡ noAddress (decode (now (image .entry))) a ⌝ }
+    ensures { λ r. ⌜ r ≡ cond (noAddress (decode (now (image .entry))) a) 5 0 ⌝ }
 {
     if words::is_on(0, words::read_word(image, 8)) {
-        return !is_canonical(a);
+        if is_canonical(a) {
+            return 0;
+        }
+        return 5;
     }
-    0x1_0000_0000 <= a
+    if 0x1_0000_0000 <= a {
+        return 5;
+    }
+    0
 }
 
 fn no_cr3(image: &[u8], value: u64) -> bool
@@ -111,10 +121,7 @@ pub fn translate_refusal(image: &[u8], mem: &[u8], kind: u64, a: u64) -> u64
     if mem.len() % 4096 != 0 {
         return 4;
     }
-    if no_address(image, a) {
-        return 5;
-    }
-    0
+    address_refusal(image, a)
 }
 
 pub fn invlpg_refusal(image: &[u8], a: u64) -> u64

@@ -1,28 +1,38 @@
-// The numbers of a translation: the access kind, a slot's two words, whether a held page serves and its address, the code of a fault, the answer.
+// The numbers of a translation: the access kind, the address space, a slot's two words, whether a held page serves and its address, the code of a fault.
 ghost use mathlib.Core.Path.{_≡_};
+ghost use lib.ListN.{length};
 ghost use Prim.Native.Nat.{_+_, _*_, _/_, _%_, _^_, _≤_, _<_};
 ghost use Rattle.rules.specs.Bits.{one as oneOf};
 ghost use Rattle.rules.specs.Image.{tagOf, datumOf};
-ghost use Rattle.rules.specs.Entries.{allows};
 ghost use Rattle.rules.specs.Buffer.{serves as servesOf};
-ghost use Rattle.rules.specs.Answers.{code as codeOf, answerOf};
+ghost use Rattle.rules.specs.Answers.{code as codeOf};
 ghost use Rattle.rules.specs.Calls.{accessOf};
 ghost use Rattle.rules.specs.declared.Control.{Control as ControlOf};
-ghost use Rattle.translator.specs.Contract.{Fits};
+ghost use Rattle.translator.specs.Contract.{IsSpace, neededOf};
 use rules::Access;
-use rules::Answer;
 use rules::Cause;
-use rules::Found;
 use rules::Rights;
 
 pub fn access_of(kind: u64) -> Access
+    requires { ⌜ kind ≤ 5 ⌝ }
     ensures { λ r. ⌜ r ≡ accessOf kind ⌝ }
 {
     Access {
-        write: kind % 3 == 1,
+        write: (kind == 1) | (kind == 4),
         user: 3 <= kind,
-        fetch: kind % 3 == 2,
+        fetch: (kind == 2) | (kind == 5),
     }
+}
+
+// The current address space.
+pub fn pcid_of(image: &[u8]) -> u64
+    requires { ⌜ length (now image) ≡ 2048 ⌝ }
+    ensures { λ r. ⌜ IsSpace (now (image .entry)) r ⌝ }
+{
+    if words::is_on(3, words::read_word(image, 8)) {
+        return words::read_word(image, 16) % 4096;
+    }
+    0
 }
 
 fn one(b: bool) -> u64
@@ -45,25 +55,22 @@ pub fn datum_of(r: Rights, dirty: bool, base: u64) -> u64
     one(r.writable) + 2 * one(r.user) + 4 * one(r.executable) + 8 * one(dirty) + base
 }
 
-// Whether rights allow an access, under the flags.
-fn may(flags: u64, k: Access, r: Rights) -> bool
-    ensures { λ b. ⌜ ((c : ControlOf) → c .flags ≡ flags → b ≡ allows c k r) ⌝ }
+// What a held page must have for an access, as bits of its datum. A kind has four bits of the number; write protect adds one of them, writable, to the
+// supervisor's write.
+fn needed(flags: u64, kind: u64) -> u64
+    requires { ⌜ kind ≤ 5 ⌝ }
+    ensures { λ r. ⌜ r ≡ neededOf flags (accessOf kind) ⌝ }
 {
-    (!k.user | r.user)
-        & (!k.write | r.writable | (!k.user & !words::is_on(1, flags)))
-        & (!k.fetch | r.executable)
+    ((0x6B_2480 + flags / 2 % 2 * 16) >> (4 * kind)) % 16
 }
 
 // Whether a held page answers.
-pub fn serves(flags: u64, k: Access, d: u64) -> bool
-    ensures { λ b. ⌜ ((c : ControlOf) → c .flags ≡ flags → b ≡ servesOf c k d) ⌝ }
+pub fn serves(flags: u64, kind: u64, d: u64) -> bool
+    requires { ⌜ kind ≤ 5 ⌝ }
+    ensures { λ b. ⌜ ((c : ControlOf) → c .flags ≡ flags → b ≡ servesOf c (accessOf kind) d) ⌝ }
 {
-    let r = Rights {
-        writable: words::is_on(0, d),
-        user: words::is_on(1, d),
-        executable: words::is_on(2, d),
-    };
-    may(flags, k, r) & (!k.write | words::is_on(3, d))
+    let need = needed(flags, kind);
+    d & need == need
 }
 
 // The physical address of a hit in a page of a length.
@@ -75,7 +82,7 @@ pub fn hit_address(d: u64, a: u64, length: u64) -> u64
 }
 
 // A page fault's code.
-fn code_of(k: Access, cause: Cause) -> u64
+pub fn code_of(k: Access, cause: Cause) -> u64
     ensures { λ r. ⌜ ((c : ControlOf) → r ≡ codeOf c k cause) ⌝ }
 {
     let asked = 2 * one(k.write) + 4 * one(k.user) + 16 * one(k.fetch);
@@ -83,36 +90,5 @@ fn code_of(k: Access, cause: Cause) -> u64
         Cause::NotPresent => asked,
         Cause::Reserved => 9 + asked,
         Cause::Protection => 1 + asked,
-    }
-}
-
-// What is answered for what a walk found.
-pub fn answer_of(k: Access, a: u64, f: Found) -> Answer
-    requires { ⌜ Fits f ⌝ }
-    ensures { λ r. ⌜ ((c : ControlOf) → r ≡ answerOf c k a f) ⌝ }
-{
-    match f {
-        Found::Page {
-            base,
-            level,
-            rights: _,
-            global: _,
-            dirty: _,
-            read,
-        } => {
-            let z = buffer::size::size_at(level);
-            let length = z.length;
-            Answer::Address {
-                value: base + a % length,
-                size: length,
-                read,
-            }
-        }
-        Found::Fault { cause, level, read } => Answer::PageFault {
-            cause,
-            level,
-            code: code_of(k, cause),
-            read,
-        },
     }
 }

@@ -1,14 +1,15 @@
 // Translation: from the buffer where a held page serves, else by the walk, whose finding is kept.
 ghost use mathlib.Core.Path.{_≡_};
-ghost use Prim.Native.Nat.{_%_};
+ghost use Prim.Native.Nat.{_%_, _^_, _≤_, _<_};
 ghost use lib.ListN.{length};
 ghost use Rattle.rules.specs.Image.{encode, decode, control};
 ghost use Rattle.rules.specs.Buffer.{filled, find};
-ghost use Rattle.rules.specs.Calls.{looked};
+ghost use Rattle.rules.specs.Calls.{accessOf, looked};
+ghost use Rattle.rules.specs.Sizes.{Is};
+ghost use Rattle.rules.specs.declared.Found.the-variants.{Page};
 ghost use Rattle.rules.specs.Refusals.{translate as translateOf};
 ghost use Rattle.rules.proofs.PlaceLaws.{IsImage};
-ghost use Rattle.translator.specs.Contract.{IsSpace, Translates, Usable, Gives, missed as missedOf, Fits};
-use crate::calls;
+ghost use Rattle.translator.specs.Contract.{IsSpace, Translates, Usable, Gives, missed as missedOf, Fits, Finishes};
 use crate::check;
 use crate::parts;
 use buffer::drops;
@@ -19,6 +20,8 @@ use rules::Access;
 use rules::Answer;
 use rules::Control;
 use rules::Found;
+use rules::Rights;
+use rules::Size;
 
 // What a walk goes by.
 fn control_of(image: &[u8], space: u64) -> Control
@@ -34,10 +37,31 @@ fn control_of(image: &[u8], space: u64) -> Control
     }
 }
 
-// A walk's finding is kept: a page in its set, a fault not at all.
-fn keep(image: &mut [u8], a: u64, space: u64, f: Found)
+// A page that a walk reached is stored in its set.
+fn keep(
+    image: &mut [u8],
+    z: Size,
+    a: u64,
+    space: u64,
+    r: Rights,
+    global: bool,
+    dirty: bool,
+    base: u64,
+)
+    requires { ⌜ IsImage (now image) × (IsSpace (now image) space × (Is z × (base < 2 ^ 52))) ⌝ }
+    ensures { λ _. ⌜ now (image .exit) ≡ encode (filled (decode (now (image .entry))) a (Page base (z .level) r global dirty 0)) ⌝ }
+{
+    let number = size::page_number(z, a);
+    let set = size::set_of(z, number) as usize;
+    let shared = words::is_on(2, words::read_word(image, 8)) & global;
+    let tag = parts::tag_of(shared, space, number);
+    buffer::fill::fill(image, set, tag, parts::datum_of(r, dirty, base));
+}
+
+// What a walk found is answered; a page is kept as well.
+fn finish(image: &mut [u8], space: u64, k: Access, a: u64, f: Found) -> Answer
     requires { ⌜ IsImage (now image) × (IsSpace (now image) space × Fits f) ⌝ }
-    ensures { λ _. ⌜ now (image .exit) ≡ encode (filled (decode (now (image .entry))) a f) ⌝ }
+    ensures { λ r. ⌜ Finishes (now (image .entry)) (now (image .exit)) k a f r ⌝ }
 {
     match f {
         Found::Page {
@@ -46,44 +70,47 @@ fn keep(image: &mut [u8], a: u64, space: u64, f: Found)
             rights,
             global,
             dirty,
-            read: _,
+            read,
         } => {
             let z = size::size_at(level);
-            let number = size::page_number(z, a);
-            let set = size::set_of(z, number) as usize;
-            let shared = words::is_on(2, words::read_word(image, 8)) & global;
-            let tag = parts::tag_of(shared, space, number);
-            buffer::fill::fill(image, set, tag, parts::datum_of(rights, dirty, base));
+            keep(image, z, a, space, rights, global, dirty, base);
+            let size = z.length;
+            let value = base + a % size;
+            Answer::Address { value, size, read }
         }
-        Found::Fault {
-            cause: _,
-            level: _,
-            read: _,
-        } => {}
+        Found::Fault { cause, level, read } => {
+            let code = parts::code_of(k, cause);
+            Answer::PageFault {
+                cause,
+                level,
+                code,
+                read,
+            }
+        }
     }
 }
 
-// The walk is made, kept and answered.
-fn missed(image: &mut [u8], mem: &mut [u8], space: u64, k: Access, a: u64) -> Answer
-    requires { ⌜ Usable (now image) × ((length (now mem) % 8 ≡ 0) × IsSpace (now image) space) ⌝ }
-    ensures { λ r. ⌜ Gives (missedOf (decode (now (image .entry))) (now (mem .entry)) k a) (now (image .exit)) (now (mem .exit)) r ⌝ }
+// The walk is made, and finished.
+fn missed(image: &mut [u8], mem: &mut [u8], space: u64, kind: u64, a: u64) -> Answer
+    requires { ⌜ Usable (now image) × ((length (now mem) % 8 ≡ 0) × (IsSpace (now image) space × (kind ≤ 5))) ⌝ }
+    ensures { λ r. ⌜ Gives (missedOf (decode (now (image .entry))) (now (mem .entry)) (accessOf kind) a) (now (image .exit)) (now (mem .exit)) r ⌝ }
 {
+    let k = parts::access_of(kind);
     let c = control_of(image, space);
     let f = walk::walk(mem, c, k, a);
-    keep(image, a, space, f);
-    parts::answer_of(k, a, f)
+    finish(image, space, k, a, f)
 }
 
 // With paging on.
-fn paged(image: &mut [u8], mem: &mut [u8], k: Access, a: u64) -> Answer
-    requires { ⌜ Usable (now image) × (length (now mem) % 8 ≡ 0) ⌝ }
-    ensures { λ r. ⌜ Gives (looked (decode (now (image .entry))) (now (mem .entry)) k a (find (decode (now (image .entry))) a)) (now (image .exit)) (now (mem .exit)) r ⌝ }
+fn paged(image: &mut [u8], mem: &mut [u8], kind: u64, a: u64) -> Answer
+    requires { ⌜ Usable (now image) × ((length (now mem) % 8 ≡ 0) × (kind ≤ 5)) ⌝ }
+    ensures { λ r. ⌜ Gives (looked (decode (now (image .entry))) (now (mem .entry)) (accessOf kind) a (find (decode (now (image .entry))) a)) (now (image .exit)) (now (mem .exit)) r ⌝ }
 {
-    let space = calls::pcid_of(image);
+    let space = parts::pcid_of(image);
     match look::look(image, a, space) {
         Place::At(i, size) => {
             let d = words::read_word(image, 40 + i * 16);
-            if parts::serves(words::read_word(image, 8), k, d) {
+            if parts::serves(words::read_word(image, 8), kind, d) {
                 let value = parts::hit_address(d, a, size);
                 return Answer::Address {
                     value,
@@ -92,9 +119,9 @@ fn paged(image: &mut [u8], mem: &mut [u8], k: Access, a: u64) -> Answer
                 };
             }
             drops::drop_matches(image, a, space);
-            missed(image, mem, space, k, a)
+            missed(image, mem, space, kind, a)
         }
-        Place::Nowhere => missed(image, mem, space, k, a),
+        Place::Nowhere => missed(image, mem, space, kind, a),
     }
 }
 
@@ -107,7 +134,7 @@ pub fn translate(image: &mut [u8], mem: &mut [u8], kind: u64, a: u64) -> Answer
         return Answer::Refused { number };
     }
     if words::is_on(0, words::read_word(image, 8)) {
-        return paged(image, mem, parts::access_of(kind), a);
+        return paged(image, mem, kind, a);
     }
     Answer::Address {
         value: a,

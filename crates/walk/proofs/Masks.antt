@@ -19,19 +19,19 @@ use Rattle.rules.proofs.BitLaws.{bit-low, one-le, flag-back, odd-one, on-one}
 use Rattle.walk.specs.Packed.{rightsOf, andIn, badOf, needOf, askOf, isAllowed, isWrite}
 
 -- ---- an identity of Booleans, computed
-abbrev Fun : ℕ → Type 0
+abbrev pub Fun : ℕ → Type 0
 Fun zero = Bool
 Fun (suc n) = Bool → Fun n
 
-abbrev Same : (n : ℕ) → Fun n → Fun n → Type 0
+abbrev pub Same : (n : ℕ) → Fun n → Fun n → Type 0
 Same zero p q = p ≡ q
 Same (suc n) f g = (b : Bool) → Same n (f b) (g b)
 
-abbrev agree : (n : ℕ) → Fun n → Fun n → Bool
+abbrev pub agree : (n : ℕ) → Fun n → Fun n → Bool
 agree zero p q = Bool·beq p q
 agree (suc n) f g = agree n (f true) (g true) && agree n (f false) (g false)
 
-same : (n : ℕ) (f g : Fun n) → agree n f g ≡ true → Same n f g
+pub same : (n : ℕ) (f g : Fun n) → agree n f g ≡ true → Same n f g
 same zero true true h = refl
 same zero true false h = sym h
 same zero false true h = h
@@ -62,7 +62,7 @@ pub rights-all : rightsOf 0xFFFFFFFFFFFFFFFF ≡ everything
 rights-all = refl
 
 -- ---- a conjunction, flag by flag
-and-one : (x : ℕ) (b : Bool) → bitAnd x (one b) ≡ one (b && eqb (x % 2) 1)
+pub and-one : (x : ℕ) (b : Bool) → bitAnd x (one b) ≡ one (b && eqb (x % 2) 1)
 and-one x true = and-mask x 1 ∙ odd-one (x % 2) (omega arith)
 and-one x false = and-zero-r x
 
@@ -71,7 +71,7 @@ module _ (k x low : ℕ) (h : low < 2 ^ k) where
   and-split q =
       ap (λ (z : ℕ). bitAnd z (q * 2 ^ k + low)) (sym (split x k)) ∙ and-block k (x / 2 ^ k) q (x % 2 ^ k) low (mod-lt x (pow-pos k)) h
 
-  and-flag : (b : Bool) → bitAnd x (one b * 2 ^ k + low) ≡ one (b && isOn k x) * 2 ^ k + bitAnd x low
+  pub and-flag : (b : Bool) → bitAnd x (one b * 2 ^ k + low) ≡ one (b && isOn k x) * 2 ^ k + bitAnd x low
   and-flag b =
       let z : bitAnd x low ≡ bitAnd (x % 2 ^ k) low = simp (zero-mul, zero-add, and-zero-r) at (and-split 0) in
       rw (and-split (one b), and-one (x / 2 ^ k) b, z)

@@ -1,7 +1,7 @@
 -- One step of the code is one step of the rules' walk, whatever control, access and address its numbers stand for: a law for each way out of it.
 use Prim.Native.Nat.{ℕ, _+_, _-_, _*_, _/_, _%_, _^_, _≤_, _<_}
 use mathlib.Core.Path.{_≡_, refl, ap, ap₂, sym, _∙_, subst, subst₂}
-use mathlib.Core.Bool.{Bool, true, false, cond, _&&_, _||_, not}
+use mathlib.Core.Bool.{Bool, true, false, cond, _&&_, _||_, not, or-true}
 use mathlib.Core.List.{List, _∷_}
 use native.Mathlib.Omega.{arith}
 use native.Mathlib.Nat.{zero-add, mul-assoc}
@@ -25,9 +25,10 @@ use Rattle.rules.proofs.SizeLaws.{size-at, level-at, reserved-is}
 use Rattle.rules.proofs.WalkLaws.{reach-step, ended, endLevel}
 use Rattle.rules.proofs.MemoryLaws.{added-already, lacks-inside}
 use Rattle.rules.proofs.Grown.{Eight, Grown, grown-marked, eights, next-eight}
-use Rattle.walk.specs.Packed.{rightsOf, andIn, isAllowed, isWrite, slid, packOf, isUnfit, AtPage, Fits, Did, Down}
+use Rattle.walk.specs.Packed.{rightsOf, andIn, isAllowed, isWrite, slid, packOf, isUnfit, AtLeaf, AtPage, Fits, Did, Down}
 use Rattle.walk.proofs.Masks.{rights-and, clear-test, cut, allow-test, write-test}
 use Rattle.walk.proofs.Packing.{pack-page, found-page, found-fault}
+use Rattle.walk.proofs.Ways.{page-small}
 
 -- ---- the address slides by nine bits a level, so that the index of each is on top
 slid-index : (level a : ℕ) → level ≤ 4 → slid level a / 2 ^ 55 ≡ index level a
@@ -52,12 +53,14 @@ slid-next level a hp h =
 abbrev Ends : ℕ → ℕ → Bool
 Ends level e = eqb level 1 || eqb (e / 128 % 2) 1
 
-pub not-last : (level e : ℕ) → Ends level e ≡ false → level ≡ 1 → ⊥
-not-last level e h q = go (eqb level 1) (eq-eqb level 1 q) h
-  where
-    go : (b : Bool) → b ≡ true → (b || eqb (e / 128 % 2) 1) ≡ false → ⊥
-    go true t g = let z : _≡_ {A = ℕ} 0 1 = cc in omega arith
-    go false t g = let z : _≡_ {A = ℕ} 0 1 = cc in omega arith
+ends-last : (level e : ℕ) → level ≡ 1 → Ends level e ≡ true
+ends-last level e h = rw h
+
+ends-large : (level e : ℕ) → e / 128 % 2 ≡ 1 → Ends level e ≡ true
+ends-large level e h = rw h (or-true (eqb level 1))
+
+goes-on : (level e : ℕ) → (level ≡ 1 → ⊥) → (e / 128 % 2 ≡ 1 → ⊥) → Ends level e ≡ false
+goes-on level e h g = rw (ne-eqb level 1 h, ne-eqb (e / 128 % 2) 1 g)
 
 present : (e : ℕ) → (e % 2 ≡ 0 → ⊥) → isOn 0 e ≡ true
 present e h = eq-eqb (e / 1 % 2) 1 (omega arith)
@@ -213,21 +216,28 @@ module _ (mem : Memory) (x level base seen mask ask at e : ℕ) (pos : 0 < level
               }
           go false y = record { number = rw y (rw (q, may ∙ y) at (d .number)); memory = rw y (rw (q, may ∙ y) at (d .memory)) }
 
-      pub way-page : Ends level e ≡ true → (mem′ : Memory) (n : ℕ) → AtPage mem mem′ at e level s ask n → Down mem mem′ x level base seen mask ask n
-      way-page t mem′ n d =
+      ends : Ends level e ≡ true → (mem′ : Memory) (n : ℕ) → AtPage mem mem′ at e level s ask n → Down mem mem′ x level base seen mask ask n
+      ends t mem′ n d =
           record {
             did = λ c k a f hx. by c k a hx (cond (isUnfit level e) bad page) (says-end c k mask ask level e f pos high (present e there) (sym test ∙ clear) t) mem′ n
                 (at-page c k f mem′ n d (isUnfit level e) refl (below c a));
           }
 
+      pub way-small : level ≡ 1 → (small : ℕ) → small ≡ part 52 12 e → (mem′ : Memory) (n : ℕ) → AtLeaf mem mem′ at e 1 small s ask n
+          → Down mem mem′ x level base seen mask ask n
+      way-small h small q mem′ n d = ends (ends-last level e h) mem′ n (page-small level small e s ask at n mem mem′ h q d)
+
+      pub way-large : e / 128 % 2 ≡ 1 → (mem′ : Memory) (n : ℕ) → AtPage mem mem′ at e level s ask n → Down mem mem′ x level base seen mask ask n
+      way-large h = ends (ends-large level e h)
+
       -- the entry leads on: the walk below has been made, and the entry is marked where that succeeded
-      module _ (t : Ends level e ≡ false) (next-base : ℕ) (leads : next-base ≡ part 52 12 e) (mem₁ : Memory) (n : ℕ)
+      module _ (not-last : level ≡ 1 → ⊥) (not-large : e / 128 % 2 ≡ 1 → ⊥) (next-base : ℕ) (leads : next-base ≡ part 52 12 e) (mem₁ : Memory) (n : ℕ)
           (down : Down mem mem₁ (x * 2 ^ 9 % 2 ^ 64) (level - 1) next-base s mask ask n) where
         through : (mem₂ : Memory) → (Grown mem mem₁ → mem₂ ≡ cond (leb 2048 n) (added 5 at mem₁) mem₁) → Down mem mem₂ x level base seen mask ask n
-        through mem₂ g = record { did = λ c k a f hx. by c k a hx table (says-on c k mask ask level e f (present e there) (sym test ∙ clear) t) mem₂ n (onwards c k a f hx) }
+        through mem₂ g = record { did = λ c k a f hx. by c k a hx table (says-on c k mask ask level e f (present e there) (sym test ∙ clear) (goes-on level e not-last not-large)) mem₂ n (onwards c k a f hx) }
           where
             more : 1 ≤ level - 1
-            more = omega (arith, not-last level e t)
+            more = omega (arith, not-last)
 
             onwards : (c : Control) (k : Access) (a : ℕ) → Fits c k mask ask → x ≡ slid level a → Did c k (step c level at e rights (below c a) table) mem mem₂ n
             onwards c k a f hx =

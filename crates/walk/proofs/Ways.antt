@@ -1,7 +1,7 @@
 -- The ways through the walk's functions: what each return of the code has to show, from the tests on its way.
 use Prim.Native.Nat.{ℕ, _+_, _-_, _*_, _/_, _%_, _^_, _≤_, _<_}
 use mathlib.Core.Path.{_≡_, ap, sym, _∙_, subst}
-use mathlib.Core.Bool.{Bool, true, false, not}
+use mathlib.Core.Bool.{Bool, true, false, _&&_, _||_, not}
 use native.Mathlib.Omega.{arith}
 use native.Mathlib.Nat.{mod-one}
 use lib.ListN.{length}
@@ -11,6 +11,7 @@ use lib.Pow.{pow-mono}
 use Rattle.rules.specs.Bits.{isOn, wordAt, anyOn, part, one}
 use Rattle.rules.specs.Image.{nxe}
 use Rattle.rules.specs.declared.Control.{Control}
+use Rattle.rules.specs.declared.Access.{Access}
 use Rattle.rules.specs.declared.Cause.the-variants.{NotPresent, Reserved, Protection}
 use Rattle.rules.specs.declared.Found.the-variants.{Page, Fault}
 use Rattle.words.proofs.Laws.{one-shl}
@@ -19,7 +20,7 @@ use Rattle.rules.specs.Walk.{dirtied}
 use Rattle.rules.proofs.BitLaws.{part-lt}
 use Rattle.rules.proofs.MemoryLaws.{entry-inside, entry-outside, added-already, lacks-inside}
 use Rattle.rules.proofs.Grown.{Eight, Grown, grown-none, grown-dirtied}
-use Rattle.walk.specs.Packed.{badOf, levelIn, unpackOf, isAllowed, isWrite, packed, leafNumber, AtLeaf, isUnfit, AtPage, Tells}
+use Rattle.walk.specs.Packed.{badOf, askOf, levelIn, unpackOf, isAllowed, isWrite, packed, leafNumber, AtLeaf, isUnfit, AtPage, Tells}
 
 -- ---- entry
 pub inside : (mem : Memory) (at r : ℕ) → Eight at → length mem % 8 ≡ 0 → at < length mem → r ≡ wordAt mem at → r ≡ entryAt mem at
@@ -111,6 +112,15 @@ unpack-reserved n h g f = rw (lt-leb 2048 n h, lt-leb 16 n g, le-leb 8 n f)
 
 pub unpack-absent : (n : ℕ) → n < 2048 → n < 16 → n < 8 → Fault NotPresent (n % 8) (5 - n % 8) ≡ unpackOf n
 unpack-absent n h g f = rw (lt-leb 2048 n h, lt-leb 16 n g, lt-leb 8 n f)
+
+-- ---- is_unfit
+pub unfit-test : (level e p : ℕ) → p ≡ part (3 + 9 * level) 13 e → (eqb level 4 || not (eqb p 0)) ≡ isUnfit level e
+unfit-test level e p h = rw h
+
+-- ---- ask_of: each flag is a bit of its own
+pub asks : (c : Control) (k : Access) (f u w p : ℕ) (b : Bool) → f ≡ one (k .fetch) → u ≡ one (k .user) → b ≡ isOn 1 (c .flags)
+    → w ≡ one (k .write && (k .user || b)) → p ≡ one (k .write) → f * 0x8000000000000000 + (u * 4 + w * 2) + p ≡ askOf c k
+asks c k f u w p b hf hu hb hw hp = rw (hf, hu, hw, hp, hb)
 
 -- ---- bad_of
 pub shl-le : (m : ℕ) → m ≤ 52 → 1 * 2 ^ m % 2 ^ 64 ≤ 2 ^ 52

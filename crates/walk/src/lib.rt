@@ -108,14 +108,11 @@ fn leaf(mem: &mut [u8], at: usize, e: u64, level: u64, base: u64, s: u64, ask: u
     16 + level
 }
 
-// The entry ends the walk: it is the page, unless one of its bits may not be set.
+// The entry ends the walk above level 1: it is a large page, unless one of its bits may not be set.
 fn page(mem: &mut [u8], at: usize, e: u64, level: u64, s: u64, ask: u64) -> u64
-    requires { ⌜ (0 < level) × ((level ≤ 4) × ((at % 8 ≡ 0) × ((length (now mem) % 8 ≡ 0) × (e ≡ entryAt (now mem) at)))) ⌝ }
+    requires { ⌜ (2 ≤ level) × ((level ≤ 4) × ((at % 8 ≡ 0) × ((length (now mem) % 8 ≡ 0) × (e ≡ entryAt (now mem) at)))) ⌝ }
     ensures { λ r. ⌜ AtPage (now (mem .entry)) (now (mem .exit)) at e level s ask r ⌝ }
 {
-    if level == 1 {
-        return leaf(mem, at, e, 1, next(e), s, ask);
-    }
     if is_unfit(level, e) {
         return 8 + level;
     }
@@ -142,7 +139,10 @@ fn down(mem: &mut [u8], base: u64, x: u64, level: u64, bad: u64, seen: u64, ask:
     }
     if is_clear(e, bad) {
         let s = and_in(seen, e);
-        if (level == 1) | (e / 128 % 2 == 1) {
+        if level == 1 {
+            return leaf(mem, at, e, 1, next(e), s, ask);
+        }
+        if e / 128 % 2 == 1 {
             return page(mem, at, e, level, s, ask);
         }
         if e / 32 % 2 == 0 {

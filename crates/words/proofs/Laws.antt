@@ -7,7 +7,7 @@ use native.Mathlib.Omega.{arith}
 use native.Mathlib.Nat.{mod-lt, max-eq-right, le-of-suc-le-suc, one-mul, add-zero, add-assoc, div-div-eq-div-mul}
 use lib.ListN.{length, getD, take, drop, set}
 use lib.Seq.{sets-eq, getD-drop, drop-drop}
-use lib.Pow.{pow-pos, split, shl-exact}
+use lib.Pow.{field, pow-pos, split, shl-exact}
 use lib.Bits.{bitOr, or-block, or-step, or-zero-r}
 use Rattle.rules.specs.Bits.{part, withBit, word, wordAt, bytesOf, wordPut}
 use Rattle.rules.specs.Memory.{Memory, added}
@@ -89,6 +89,8 @@ pub put-bit : (k at : ℕ) (mem : Memory) → k < 8 → set mem at (bitOr (getD 
 put-bit k at mem h = ap (set mem at) (ap (bitOr (getD mem at 0)) (one-shl k 8 h) ∙ or-bit k (getD mem at 0))
 
 -- ---- a part cut out by shifts
-pub part-shifts : (h l x : ℕ) → l ≤ h → h < 64 → ((x / 2 ^ l % ((1 * 2 ^ (h - l)) % 2 ^ 64)) * 2 ^ l) % 2 ^ 64 ≡ part h l x
+pub part-shifts : (h l x : ℕ) → l ≤ h → h < 64 → (x % ((1 * 2 ^ h) % 2 ^ 64) / 2 ^ l * 2 ^ l) % 2 ^ 64 ≡ part h l x
 part-shifts h l x g k =
-    rw (one-shl (h - l) 64 (omega arith)) (shl-exact (h - l) l 64 (mod-lt (x / 2 ^ l) (pow-pos (h - l))) (omega arith))
+    let q : h - l + l ≡ h = omega arith in
+    let e : x % 2 ^ h / 2 ^ l ≡ x / 2 ^ l % 2 ^ (h - l) = rw q at (field x (h - l) l) in
+    rw (one-shl h 64 k, e) (shl-exact (h - l) l 64 (mod-lt (x / 2 ^ l) (pow-pos (h - l))) (omega arith))

@@ -72,5 +72,5 @@ pub fn part(h: u64, l: u64, x: u64) -> u64
     requires { ⌜ (l ≤ h) × (h < 64) ⌝ }
     ensures { λ r. ⌜ r ≡ partOf h l x ⌝ }
 {
-    ((x >> l) % (1 << (h - l))) << l
+    ((x % (1 << h)) >> l) << l
 }

@@ -1,4 +1,5 @@
 -- Each flag is a bit of its own, by what `one` says of it.
+use Rattle.walk.proofs.Ways.{asks}
 use borrow.Author.Needs.{needs}
 use Rattle.walk.proofs.ask_of.Statement.{statement}
 use Rattle.walk.proofs.ask_of.Tie as tie
@@ -37,7 +38,7 @@ add-result-3 : tie.Need-add-result-3
 add-result-3 c = search needs
 
 returns : tie.Need-returns
-returns c = cc
+returns c = search asks
 
 pub ask-of-spec : {M : Type 1} → statement M
 ask-of-spec =

@@ -1,20 +1,8 @@
--- The three ways through it: a small page, an entry that is unfit, a large page.
-use Rattle.walk.proofs.Ways.{page-small, page-unfit, page-large, part-low}
+-- The two ways through it: an entry that is unfit, a large page.
+use Rattle.walk.proofs.Ways.{page-unfit, page-large, part-low}
 use borrow.Author.Needs.{needs}
 use Rattle.walk.proofs.page.Statement.{statement}
 use Rattle.walk.proofs.page.Tie as tie
-
-next-requires : tie.Need-next-requires
-next-requires c κs = search needs
-
-leaf-requires : tie.Need-leaf-requires
-leaf-requires c κs = search needs
-
-same-length : tie.Need-same-length
-same-length c = search needs
-
-returns : tie.Need-returns
-returns c = search page-small
 
 is-unfit-requires : tie.Need-is-unfit-requires
 is-unfit-requires c κs = search needs
@@ -22,8 +10,8 @@ is-unfit-requires c κs = search needs
 add-result : tie.Need-add-result
 add-result c = search needs
 
-returns-2 : tie.Need-returns-2
-returns-2 c = search page-unfit
+returns : tie.Need-returns
+returns c = search page-unfit
 
 mul-part : tie.Need-mul-part
 mul-part c = search needs
@@ -34,29 +22,16 @@ add-part c = search needs
 part-requires : tie.Need-part-requires
 part-requires c κs = search needs
 
-leaf-requires-2 : tie.Need-leaf-requires-2
-leaf-requires-2 c κs = let h = part-low _ _ _ (c .before .before .before .before .before .before .pre .1 .0) (c .part .ensures) in search needs
+leaf-requires : tie.Need-leaf-requires
+leaf-requires c κs = let h = part-low _ _ _ (c .before .before .before .before .before .pre .1 .0) (c .part .ensures) in search needs
 
-same-length-2 : tie.Need-same-length-2
-same-length-2 c = search needs
+same-length : tie.Need-same-length
+same-length c = search needs
 
-returns-3 : tie.Need-returns-3
-returns-3 c = search page-large
+returns-2 : tie.Need-returns-2
+returns-2 c = search page-large
 
 pub page-spec : {M : Type 1} → statement M
 page-spec =
     tie.close
-    (tie.spec
-    next-requires
-    leaf-requires
-    same-length
-    returns
-    is-unfit-requires
-    add-result
-    returns-2
-    mul-part
-    add-part
-    part-requires
-    leaf-requires-2
-    same-length-2
-    returns-3)
+    (tie.spec is-unfit-requires add-result returns mul-part add-part part-requires leaf-requires same-length returns-2)

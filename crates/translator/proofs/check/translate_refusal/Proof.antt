@@ -1,5 +1,5 @@
--- A way for each test, and one where none applies; an image that is not refused has its length.
-use Rattle.translator.proofs.Checks.{at-first, fit-long, no-kind, ragged, no-place, taken}
+-- A way for each test, the address's own last; an image that is not refused has its length.
+use Rattle.translator.proofs.Checks.{at-first, fit-long, no-kind, ragged, by-address}
 use borrow.Author.Needs.{needs}
 use Rattle.translator.proofs.check.translate_refusal.Statement.{statement}
 use Rattle.translator.proofs.check.translate_refusal.Tie as tie
@@ -16,14 +16,11 @@ returns-2 c = search no-kind
 returns-3 : tie.Need-returns-3
 returns-3 c = search ragged
 
-no-address-requires : tie.Need-no-address-requires
-no-address-requires c κs = search fit-long
+address-refusal-requires : tie.Need-address-refusal-requires
+address-refusal-requires c κs = search fit-long
 
 returns-4 : tie.Need-returns-4
-returns-4 c = search no-place
-
-returns-5 : tie.Need-returns-5
-returns-5 c = search taken
+returns-4 c = search by-address
 
 pub translate-refusal-spec : {M : Type 1} → statement M
 translate-refusal-spec =
@@ -33,6 +30,5 @@ translate-refusal-spec =
     returns
     returns-2
     returns-3
-    no-address-requires
-    returns-4
-    returns-5)
+    address-refusal-requires
+    returns-4)

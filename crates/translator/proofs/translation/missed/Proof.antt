@@ -1,8 +1,11 @@
--- What the walk found is in range, is kept, and is answered.
+-- What the walk found is in range, and is finished.
 use Rattle.translator.proofs.Translating.{walk-ready, found-fits, misses}
 use borrow.Author.Needs.{needs}
 use Rattle.translator.proofs.translation.missed.Statement.{statement}
 use Rattle.translator.proofs.translation.missed.Tie as tie
+
+access-of-requires : tie.Need-access-of-requires
+access-of-requires c κs = search needs
 
 control-of-requires : tie.Need-control-of-requires
 control-of-requires c κs = search needs
@@ -10,11 +13,8 @@ control-of-requires c κs = search needs
 walk-requires : tie.Need-walk-requires
 walk-requires c κs = search walk-ready
 
-keep-requires : tie.Need-keep-requires
-keep-requires c κs = (search needs, (search needs, search found-fits))
-
-answer-of-requires : tie.Need-answer-of-requires
-answer-of-requires c κs = search found-fits
+finish-requires : tie.Need-finish-requires
+finish-requires c κs = (search needs, (search needs, search found-fits))
 
 same-length : tie.Need-same-length
 same-length c = search needs
@@ -29,10 +29,10 @@ pub missed-spec : {M : Type 1} → statement M
 missed-spec =
     tie.close
     (tie.spec
+    access-of-requires
     control-of-requires
     walk-requires
-    keep-requires
-    answer-of-requires
+    finish-requires
     same-length
     same-length-2
     returns)

@@ -45,7 +45,7 @@ missed-requires c κs =
     let d = c .before .before .before .before in
     let p = d .before .before .before .before .before .before .before .before .before .before .before .before .before in
     let u = p .before .before .before .before .pre .0 in
-    (usable-dropped _ _ _ u (d .drop-matches .ensures), (search needs, space-dropped _ _ _ _ u (p .pcid-of .ensures) (d .drop-matches .ensures)))
+    (usable-dropped _ _ _ u (d .drop-matches .ensures), (search needs, (space-dropped _ _ _ _ u (p .pcid-of .ensures) (d .drop-matches .ensures), search needs)))
 
 enum-told : tie.Need-enum-told
 enum-told c = search needs

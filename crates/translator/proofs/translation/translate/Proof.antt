@@ -2,7 +2,7 @@
 use Rattle.rules.specs.Refusals.{translate}
 use native.Mathlib.Omega.{arith}
 use Rattle.translator.proofs.Calling.{call-room}
-use Rattle.translator.proofs.Translating.{refuses-it, use-image, whole, pages, flat}
+use Rattle.translator.proofs.Translating.{refuses-it, use-image, whole, known, pages, flat}
 use borrow.Author.Needs.{needs}
 use Rattle.translator.proofs.translation.translate.Statement.{statement}
 use Rattle.translator.proofs.translation.translate.Tie as tie
@@ -25,15 +25,12 @@ read-word-requires c κs = search (call-room, needs)
 is-on-requires : tie.Need-is-on-requires
 is-on-requires c κs = search needs
 
-access-of-requires : tie.Need-access-of-requires
-access-of-requires c κs = search needs
-
 paged-requires : tie.Need-paged-requires
 paged-requires c κs =
-    let s = c .before .before .before .before .before .before .before in
+    let s = c .before .before .before .before .before .before in
     let k = s .before .before .before .before .before in
     let u = use-image (k .before .args .image .now) (k .before .args .mem .now) (k .before .args .kind) (k .before .args .a) (s .before .translate-refusal .result) (s .before .translate-refusal .ensures) (s .if1 .left) (λ j. omega (arith, k .slice-known .given j)) in
-    (u, search whole)
+    (u, (search whole, search known))
 
 same-length-3 : tie.Need-same-length-3
 same-length-3 c = search needs
@@ -67,7 +64,6 @@ translate-spec =
     returns
     read-word-requires
     is-on-requires
-    access-of-requires
     paged-requires
     same-length-3
     same-length-4
