@@ -23,7 +23,7 @@ use Rattle.rules.proofs.ImageLaws.{Sound, cr3-bytes, flags-bytes, decode-encode
 use Rattle.rules.proofs.PlaceLaws.{IsImage, image-of, is-encoded, flags-at, cr3-at}
 use Rattle.buffer.specs.Drops.{droppedIn, every, notGlobal, ofSpace, ofSpaceAt}
 use Rattle.translator.specs.Contract.{IsSpace, Leaves}
-use Rattle.translator.proofs.Checks.{or-left, or-right, fit-long, fit-tail}
+use Rattle.refusals.proofs.Checks.{or-left, or-right, fit-long, fit-tail}
 
 -- ---- clear
 zeros-next : (i : ℕ) → replicate {A = ℕ} (suc i) 0 ≡ replicate i 0 ++ (0 ∷ [])
@@ -248,11 +248,9 @@ pub spaceless : (b : List ℕ) (f : ℕ) (k : Bool) → f ≡ wordAt b 8 → k �
 spaceless b f k hf hk t = record { current = rw (flags-at b, ← hf, ← hk, t); low = omega arith }
 
 -- ---- same_mode: flag by flag
-pub same-mode : (v f : ℕ) (s₀ s₂ s₃ s₄ a₀ a₂ a₃ a₄ b₀ b₂ b₃ b₄ : Bool)
-    → s₀ ≡ isSame a₀ b₀ → a₀ ≡ isOn 0 v → b₀ ≡ isOn 0 f
-    → s₂ ≡ isSame a₂ b₂ → a₂ ≡ isOn 2 v → b₂ ≡ isOn 2 f
-    → s₃ ≡ isSame a₃ b₃ → a₃ ≡ isOn 3 v → b₃ ≡ isOn 3 f
-    → s₄ ≡ isSame a₄ b₄ → a₄ ≡ isOn 4 v → b₄ ≡ isOn 4 f
-    → (s₀ && s₂ && s₃ && s₄) ≡ sameMode v f
-same-mode v f s₀ s₂ s₃ s₄ a₀ a₂ a₃ a₄ b₀ b₂ b₃ b₄ e₀ p₀ q₀ e₂ p₂ q₂ e₃ p₃ q₃ e₄ p₄ q₄ =
-    rw (e₀, e₂, e₃, e₄, p₀, q₀, p₂, q₂, p₃, q₃, p₄, q₄)
+pub same-flag : (k v f : ℕ) (s a b : Bool) → s ≡ isSame a b → a ≡ isOn k v → b ≡ isOn k f → s ≡ isSame (isOn k v) (isOn k f)
+same-flag k v f s a b e p q = rw (← p, ← q) e
+
+pub same-mode : (v f : ℕ) (s₀ s₂ s₃ s₄ : Bool) → s₀ ≡ isSame (isOn 0 v) (isOn 0 f) → s₂ ≡ isSame (isOn 2 v) (isOn 2 f)
+    → s₃ ≡ isSame (isOn 3 v) (isOn 3 f) → s₄ ≡ isSame (isOn 4 v) (isOn 4 f) → (s₀ && s₂ && s₃ && s₄) ≡ sameMode v f
+same-mode v f s₀ s₂ s₃ s₄ e₀ e₂ e₃ e₄ = rw (e₀, e₂, e₃, e₄)

@@ -1,4 +1,3 @@
-pub mod Checks
 pub mod Calling
 pub mod Numbers
 pub mod Translating

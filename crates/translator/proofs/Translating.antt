@@ -38,7 +38,7 @@ use Rattle.buffer.specs.Fill.{filledAt}
 use Rattle.buffer.specs.Drops.{droppedIn}
 use Rattle.buffer.proofs.DropLaws.{image-dropped, says-dropped}
 use Rattle.translator.specs.Contract.{IsSpace, Translates, Usable, Gives, missed, Fits, Finishes}
-use Rattle.translator.proofs.Checks.{fit-wide, fit-narrow}
+use Rattle.refusals.proofs.Checks.{fit-wide, fit-narrow}
 use Rattle.translator.proofs.Calling.{fits, call-image}
 use Rattle.translator.proofs.Numbers.{length-in}
 

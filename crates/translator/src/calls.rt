@@ -4,7 +4,6 @@ ghost use lib.ListN.{length, replicate};
 ghost use Rattle.rules.specs.Refusals.{start as startOf, invlpg as invlpgOf, invpcid as invpcidOf, writeCr3, writeMode};
 ghost use Rattle.rules.specs.Calls.{isSame, sameMode};
 ghost use Rattle.translator.specs.Contract.{Leaves};
-use crate::check;
 use crate::parts;
 use buffer::drops;
 use rules::Answer;
@@ -24,7 +23,7 @@ fn clear(s: &mut [u8])
 pub fn start(image: &mut [u8], width: u64) -> Answer
     ensures { λ r. ⌜ Leaves (startOf width) (now (image .entry)) (now (image .exit)) r ⌝ }
 {
-    let number = check::start_refusal(image, width);
+    let number = refusals::start_refusal(image, width);
     if number != 0 {
         return Answer::Refused { number };
     }
@@ -37,11 +36,11 @@ pub fn start(image: &mut [u8], width: u64) -> Answer
 pub fn invlpg(image: &mut [u8], a: u64) -> Answer
     ensures { λ r. ⌜ Leaves (invlpgOf a) (now (image .entry)) (now (image .exit)) r ⌝ }
 {
-    let number = check::invlpg_refusal(image, a);
+    let number = refusals::invlpg_refusal(image, a);
     if number != 0 {
         return Answer::Refused { number };
     }
-    if check::is_canonical(a) {
+    if refusals::is_canonical(a) {
         let space = parts::pcid_of(image);
         drops::drop_matches(image, a, space);
         return Answer::Done;
@@ -53,7 +52,7 @@ pub fn invlpg(image: &mut [u8], a: u64) -> Answer
 pub fn invpcid(image: &mut [u8], kind: u64, space: u64, a: u64) -> Answer
     ensures { λ r. ⌜ Leaves (invpcidOf kind space a) (now (image .entry)) (now (image .exit)) r ⌝ }
 {
-    let number = check::invpcid_refusal(image, kind, space, a);
+    let number = refusals::invpcid_refusal(image, kind, space, a);
     if number != 0 {
         return Answer::Refused { number };
     }
@@ -77,7 +76,7 @@ pub fn invpcid(image: &mut [u8], kind: u64, space: u64, a: u64) -> Answer
 pub fn write_cr3(image: &mut [u8], value: u64) -> Answer
     ensures { λ r. ⌜ Leaves (writeCr3 value) (now (image .entry)) (now (image .exit)) r ⌝ }
 {
-    let number = check::cr3_refusal(image, value);
+    let number = refusals::cr3_refusal(image, value);
     if number != 0 {
         return Answer::Refused { number };
     }
@@ -110,7 +109,7 @@ fn same_mode(value: u64, flags: u64) -> bool
 pub fn write_mode(image: &mut [u8], value: u64) -> Answer
     ensures { λ r. ⌜ Leaves (writeMode value) (now (image .entry)) (now (image .exit)) r ⌝ }
 {
-    let number = check::mode_refusal(image, value);
+    let number = refusals::mode_refusal(image, value);
     if number != 0 {
         return Answer::Refused { number };
     }

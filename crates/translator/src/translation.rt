@@ -10,7 +10,6 @@ ghost use Rattle.rules.specs.declared.Found.the-variants.{Page};
 ghost use Rattle.rules.specs.Refusals.{translate as translateOf};
 ghost use Rattle.rules.proofs.PlaceLaws.{IsImage};
 ghost use Rattle.translator.specs.Contract.{IsSpace, Translates, Usable, Gives, missed as missedOf, Fits, Finishes};
-use crate::check;
 use crate::parts;
 use buffer::drops;
 use buffer::look;
@@ -129,7 +128,7 @@ fn paged(image: &mut [u8], mem: &mut [u8], kind: u64, a: u64) -> Answer
 pub fn translate(image: &mut [u8], mem: &mut [u8], kind: u64, a: u64) -> Answer
     ensures { λ r. ⌜ Translates (translateOf kind a) (now (image .entry)) (now (image .exit)) (now (mem .entry)) (now (mem .exit)) r ⌝ }
 {
-    let number = check::translate_refusal(image, mem, kind, a);
+    let number = refusals::translate_refusal(image, mem, kind, a);
     if number != 0 {
         return Answer::Refused { number };
     }

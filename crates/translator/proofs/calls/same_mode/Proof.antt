@@ -1,5 +1,5 @@
 -- Flag by flag, as the definition compares them.
-use Rattle.translator.proofs.Calling.{same-mode}
+use Rattle.translator.proofs.Calling.{same-flag, same-mode}
 use borrow.Author.Needs.{needs}
 use Rattle.translator.proofs.calls.same_mode.Statement.{statement}
 use Rattle.translator.proofs.calls.same_mode.Tie as tie
@@ -41,7 +41,7 @@ is-same-requires-4 : tie.Need-is-same-requires-4
 is-same-requires-4 c κs = search needs
 
 returns : tie.Need-returns
-returns c = search same-mode
+returns c = search (same-mode, same-flag)
 
 pub same-mode-spec : {M : Type 1} → statement M
 same-mode-spec =

@@ -1,0 +1,18 @@
+-- A contract admits one outcome: two programs that keep it return the same number and leave the same bytes.
+use mathlib.Core.Path.{_≡_}
+use mathlib.Core.List.{List}
+use Prim.Native.Nat.{ℕ}
+use Rattle.rules.specs.Memory.{Memory}
+use Rattle.rules.specs.Refusals.{Request}
+use Rattle.rules.specs.Calls.{Left}
+use Rattle.rules.proofs.CallLaws.{one-left}
+use Rattle.pastrulow.specs.Door.{Passes, PassesMemory}
+
+module _ (q : Request) (r r₁ r₂ b b₁ b₂ : List ℕ) (n₁ n₂ : ℕ) where
+  pub passes-one : Passes q r r₁ b b₁ n₁ → Passes q r r₂ b b₂ n₂ → (mem : Memory)
+      → _≡_ {A = Left} (record { number = n₁; answer = r₁; image = b₁; memory = mem }) (record { number = n₂; answer = r₂; image = b₂; memory = mem })
+  passes-one h g mem = one-left r b mem q _ _ (h .left mem) (g .left mem)
+
+  pub passes-memory-one : (mem mem₁ mem₂ : Memory) → PassesMemory q r r₁ b b₁ mem mem₁ n₁ → PassesMemory q r r₂ b b₂ mem mem₂ n₂
+      → _≡_ {A = Left} (record { number = n₁; answer = r₁; image = b₁; memory = mem₁ }) (record { number = n₂; answer = r₂; image = b₂; memory = mem₂ })
+  passes-memory-one mem mem₁ mem₂ h g = one-left r b mem q _ _ (h .left) (g .left)
