@@ -1,0 +1,165 @@
+/* Parts of the plain C that the archive is measured against: words, the image's checks, sets and slots, matches. */
+#ifndef BASELINE_PARTS_H
+#define BASELINE_PARTS_H
+
+#include <emmintrin.h>
+#include <stdbool.h>
+#include <string.h>
+
+#include "pastrulow.h"
+
+#define LIKELY(x) __builtin_expect(!!(x), 1)
+#define UNLIKELY(x) __builtin_expect(!!(x), 0)
+#define BIT(n) (UINT64_C(1) << (n))
+#define APART static __attribute__((noipa)) /* kept out of the short way through its caller, arguments as written */
+#define PART static inline __attribute__((always_inline))
+
+/* Places in the image, in bytes. */
+enum { FLAGS_AT = 8, CR3_AT = 16, VICTIMS_AT = 24, SLOTS_AT = 32, REST_AT = 1632, SLOT = 16, SET = 64 };
+
+/* A tag and a data word. */
+enum { HELD = 1, GLOBAL = 2, PCID_FIELD = 4095 << 2 };
+enum { WRITABLE = 1, USER = 2, EXECUTABLE = 4, DIRTY = 8 };
+#define PAGE_FIELD UINT64_C(0x3ffffffffc000)
+#define BASE_FIELD UINT64_C(0xffffffffff000)
+
+/* An entry. */
+enum { PRESENT = 1, ACCESSED = 0x20, ENTRY_DIRTY = 0x40, LARGE = 0x80 };
+
+/* What a data word must have for a kind of access; the second half is for WP on. */
+static const uint8_t needs[16] = {
+    0, DIRTY,            EXECUTABLE, USER, USER | WRITABLE | DIRTY, USER | EXECUTABLE, 0, 0,
+    0, WRITABLE | DIRTY, EXECUTABLE, USER, USER | WRITABLE | DIRTY, USER | EXECUTABLE, 0, 0,
+};
+
+PART uint64_t load(const uint8_t *bytes)
+{
+    uint64_t word;
+    memcpy(&word, bytes, sizeof word);
+    return word;
+}
+
+PART void store(uint8_t *bytes, uint64_t word)
+{
+    memcpy(bytes, &word, sizeof word);
+}
+
+PART uint64_t answer_words(uint8_t *answer, uint64_t kind, uint64_t value, uint64_t size, uint64_t read)
+{
+    store(answer, kind);
+    store(answer + 8, value);
+    store(answer + 16, size);
+    store(answer + 24, read);
+    return 0;
+}
+
+PART uint64_t answer_done(uint8_t *answer)
+{
+    return answer_words(answer, PASTRULOW_DONE, 0, 0, 0);
+}
+
+APART uint64_t refuse(uint8_t *answer, uint64_t number)
+{
+    answer_words(answer, PASTRULOW_REFUSED, number, 0, 0);
+    return number;
+}
+
+/* 16 * blocks bytes: the first and the last 16 at any alignment, and aligned blocks that reach from the one into the other. */
+PART bool all_zero(const uint8_t *bytes, unsigned blocks)
+{
+    const __m128i *aligned = (const __m128i *)(((uintptr_t)bytes + 15) & ~(uintptr_t)15);
+    __m128i seen = _mm_loadu_si128((const __m128i *)bytes);
+    seen = _mm_or_si128(seen, _mm_loadu_si128((const __m128i *)(bytes + 16 * (blocks - 1))));
+#pragma GCC unroll 32
+    for (unsigned i = 0; i < blocks - 1; i++)
+        seen = _mm_or_si128(seen, _mm_load_si128(aligned + i));
+    return _mm_movemask_epi8(_mm_cmpeq_epi8(seen, _mm_setzero_si128())) == 0xffff;
+}
+
+PART bool image_fits(const uint8_t *image)
+{
+    return LIKELY(load(image) - 36 <= 16) &&
+           LIKELY((load(image + FLAGS_AT) >> 5 | load(image + VICTIMS_AT) >> 50) == 0) && LIKELY(all_zero(image + REST_AT, 26));
+}
+
+PART bool canonical(uint64_t address)
+{
+    return (address + BIT(47)) >> 48 == 0;
+}
+
+PART uint64_t pcid_of(uint64_t flags, uint64_t cr3)
+{
+    return flags & PASTRULOW_PCIDE ? cr3 & 4095 : 0;
+}
+
+PART uint64_t current_pcid(const uint8_t *image)
+{
+    return pcid_of(load(image + FLAGS_AT), load(image + CR3_AT));
+}
+
+/* Where the set of an address begins, among the pages of 2^length bytes. */
+PART uint8_t *set_of(uint8_t *image, uint64_t address, unsigned length)
+{
+    switch (length) {
+    case 12:
+        return image + (address >> 6 & 15 * SET) + SLOTS_AT;
+    case 21:
+        return image + (address >> 15 & 7 * SET) + (SLOTS_AT + 16 * SET);
+    default:
+        return image + SLOTS_AT + 24 * SET;
+    }
+}
+
+/* The page number where a tag has it. */
+PART uint64_t page_of(uint64_t address, unsigned length)
+{
+    return length == 12 ? address << 2 & PAGE_FIELD : address >> (length - 14) & (BIT(62 - length) - BIT(14));
+}
+
+/* A slot of this page may be another address space's. */
+PART bool is_ours(const uint8_t *image, uint64_t tag)
+{
+    if (tag & GLOBAL)
+        return true;
+    if (image[FLAGS_AT] & PASTRULOW_PCIDE)
+        tag ^= load(image + CR3_AT) << 2;
+    return (tag & PCID_FIELD) == 0;
+}
+
+/* Keeps a constant in a register. */
+#define PIN(value) __asm__("" : "+r"(value))
+
+PART uint8_t *find_ours(uint8_t *image, uint64_t address, unsigned length)
+{
+    uint8_t *set = set_of(image, address, length);
+    uint64_t wanted = page_of(address, length) | HELD;
+    for (unsigned way = 0; way < 4; way++, set += SLOT)
+        if ((load(set) & (PAGE_FIELD | HELD)) == wanted && is_ours(image, load(set)))
+            return set;
+    return NULL;
+}
+
+PART void zero_slot(uint8_t *slot)
+{
+    _mm_storeu_si128((__m128i *)slot, _mm_setzero_si128());
+}
+
+PART void drop_matches_of(uint8_t *image, uint64_t address, unsigned length)
+{
+    uint8_t *set = set_of(image, address, length);
+    uint64_t wanted = page_of(address, length) | HELD, mask = PAGE_FIELD | HELD;
+    PIN(mask);
+#pragma GCC unroll 4
+    for (unsigned way = 0; way < 4; way++, set += SLOT)
+        if (UNLIKELY((load(set) & mask) == wanted) && is_ours(image, load(set)))
+            zero_slot(set);
+}
+
+PART void drop_matches(uint8_t *image, uint64_t address)
+{
+    drop_matches_of(image, address, 12);
+    drop_matches_of(image, address, 21);
+    drop_matches_of(image, address, 30);
+}
+
+#endif

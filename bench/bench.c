@@ -1,0 +1,164 @@
+/*
+ * One operation, many times: bench OPERATION TIMES call|empty
+ *
+ * Linked once with the archive and once with baseline.c. With "empty" the loop is the same, but the call goes to a function
+ * that returns at once; the difference in instructions is the operation's own. "bench" alone lists the operations.
+ * Before the loop the operation is made once and its record held to what is expected.
+ */
+#include <inttypes.h>
+#include <stdbool.h>
+#include <stdio.h>
+#include <stdlib.h>
+#include <string.h>
+
+#include "pastrulow.h"
+
+enum { GUEST_BYTES = 24 * 1024, FLAGS = 23, ROOT = 0x1000 };
+
+static _Alignas(64) uint8_t images[PASTRULOW_IMAGE_BYTES + 64], kept[PASTRULOW_IMAGE_BYTES];
+static _Alignas(64) uint8_t memory[GUEST_BYTES];
+static _Alignas(64) uint8_t record[PASTRULOW_ANSWER_BYTES];
+static uint8_t *image = images;
+
+struct door {
+    uint64_t (*start)(uint8_t *, size_t, uint64_t, uint8_t *, size_t);
+    uint64_t (*translate)(uint8_t *, size_t, uint8_t *, size_t, uint64_t, uint64_t, uint8_t *, size_t);
+    uint64_t (*invlpg)(uint8_t *, size_t, uint64_t, uint8_t *, size_t);
+    uint64_t (*invpcid)(uint8_t *, size_t, uint64_t, uint64_t, uint64_t, uint8_t *, size_t);
+    uint64_t (*write_cr3)(uint8_t *, size_t, uint64_t, uint8_t *, size_t);
+    uint64_t (*write_mode)(uint8_t *, size_t, uint64_t, uint8_t *, size_t);
+};
+
+static const struct door full = {pastrulow_start,   pastrulow_translate, pastrulow_invlpg,
+                                 pastrulow_invpcid, pastrulow_write_cr3, pastrulow_write_mode};
+
+/* Calls that do nothing but return: two instructions each. */
+static uint64_t no_start(uint8_t *i, size_t il, uint64_t w, uint8_t *a, size_t al)
+{
+    return (void)i, (void)il, (void)w, (void)a, (void)al, 0;
+}
+
+static uint64_t no_translate(uint8_t *i, size_t il, uint8_t *m, size_t ml, uint64_t k, uint64_t v, uint8_t *a, size_t al)
+{
+    return (void)i, (void)il, (void)m, (void)ml, (void)k, (void)v, (void)a, (void)al, 0;
+}
+
+static uint64_t no_invpcid(uint8_t *i, size_t il, uint64_t t, uint64_t p, uint64_t v, uint8_t *a, size_t al)
+{
+    return (void)i, (void)il, (void)t, (void)p, (void)v, (void)a, (void)al, 0;
+}
+
+static const struct door empty = {no_start, no_translate, no_start, no_invpcid, no_start, no_start};
+
+enum name { START, TRANSLATE, INVLPG, INVPCID, WRITE_CR3, WRITE_MODE };
+
+struct operation {
+    const char *title;
+    enum name name;
+    uint64_t numbers[3];
+    uint64_t held;   /* an address that is read first, so that its page is held; NOTHING_HELD: the buffer is empty */
+    bool restored;   /* the image is put back before each call */
+    unsigned offset; /* of the image from an alignment of 64 */
+    struct pastrulow_answer expected;
+};
+
+#define NOTHING_HELD UINT64_MAX
+#define FAR_ADDRESS UINT64_C(0x00007FFFFFFFF000)
+
+static const struct operation operations[] = {
+    {"hit, 4 KiB", TRANSLATE, {0, 0x123, 0}, 0x123, false, 0, {0, 0x5123, 4096, 0}},
+    {"hit, 4 KiB, image not aligned", TRANSLATE, {0, 0x123, 0}, 0x123, false, 8, {0, 0x5123, 4096, 0}},
+    {"hit, 2 MiB", TRANSLATE, {0, 0x212345, 0}, 0x212345, false, 0, {0, 0x612345, 2097152, 0}},
+    {"hit, 1 GiB", TRANSLATE, {0, 0x40000010, 0}, 0x40000010, false, 0, {0, 0x40000010, 1073741824, 0}},
+    {"miss, 4 KiB: 4 levels and fill", TRANSLATE, {0, 0x123, 0}, NOTHING_HELD, true, 0, {0, 0x5123, 4096, 4}},
+    {"miss, 2 MiB: 3 levels and fill", TRANSLATE, {0, 0x212345, 0}, NOTHING_HELD, true, 0, {0, 0x612345, 2097152, 3}},
+    {"fault at level 4", TRANSLATE, {0, FAR_ADDRESS, 0}, NOTHING_HELD, false, 0, {1, 0, 0, 1}},
+    {"INVLPG of a page held", INVLPG, {0x123, 0, 0}, 0x123, true, 0, {3, 0, 0, 0}},
+    {"CR3 write, buffer empty", WRITE_CR3, {ROOT, 0, 0}, NOTHING_HELD, false, 0, {3, 0, 0, 0}},
+    {"mode write, nothing changes", WRITE_MODE, {FLAGS, 0, 0}, 0x123, false, 0, {3, 0, 0, 0}},
+    {"mode write, all dropped", WRITE_MODE, {FLAGS & ~4, 0, 0}, 0x123, true, 0, {3, 0, 0, 0}},
+    {"INVPCID type 0 of a page held", INVPCID, {0, 0, 0x123}, 0x123, true, 0, {3, 0, 0, 0}},
+    {"INVPCID type 1, one page held", INVPCID, {1, 0, 0}, 0x123, true, 0, {3, 0, 0, 0}},
+    {"INVPCID type 2, one page held", INVPCID, {2, 0, 0}, 0x123, true, 0, {3, 0, 0, 0}},
+    {"INVPCID type 3, one page held", INVPCID, {3, 0, 0}, 0x123, true, 0, {3, 0, 0, 0}},
+    {"start", START, {40, 0, 0}, NOTHING_HELD, false, 0, {3, 0, 0, 0}},
+};
+
+enum { OPERATIONS = sizeof operations / sizeof *operations };
+
+static uint64_t make(const struct door *door, const struct operation *operation)
+{
+    const uint64_t *n = operation->numbers;
+    size_t image_len = PASTRULOW_IMAGE_BYTES;
+    switch (operation->name) {
+    case START:
+        return door->start(image, image_len, n[0], record, sizeof record);
+    case TRANSLATE:
+        return door->translate(image, image_len, memory, sizeof memory, n[0], n[1], record, sizeof record);
+    case INVLPG:
+        return door->invlpg(image, image_len, n[0], record, sizeof record);
+    case INVPCID:
+        return door->invpcid(image, image_len, n[0], n[1], n[2], record, sizeof record);
+    case WRITE_CR3:
+        return door->write_cr3(image, image_len, n[0], record, sizeof record);
+    default:
+        return door->write_mode(image, image_len, n[0], record, sizeof record);
+    }
+}
+
+static void put_word(uint64_t address, uint64_t word)
+{
+    for (unsigned i = 0; i < 8; i++)
+        memory[address + i] = (uint8_t)(word >> 8 * i);
+}
+
+/* The part of document 01's trial guest that the operations use, with every accessed bit set. */
+static void set_up(const struct operation *operation)
+{
+    size_t image_len = PASTRULOW_IMAGE_BYTES;
+    image = images + operation->offset;
+    put_word(0x1000, 0x2027);
+    put_word(0x2000, 0x3027);
+    put_word(0x2008, 0x400000a3);
+    put_word(0x3000, 0x4027);
+    put_word(0x3008, 0x6000a7);
+    put_word(0x4000, 0x5023);
+    pastrulow_start(image, image_len, 40, record, sizeof record);
+    pastrulow_write_cr3(image, image_len, ROOT, record, sizeof record);
+    pastrulow_write_mode(image, image_len, FLAGS, record, sizeof record);
+    if (operation->held != NOTHING_HELD)
+        pastrulow_translate(image, image_len, memory, sizeof memory, 0, operation->held, record, sizeof record);
+    memcpy(kept, image, image_len);
+}
+
+static bool as_expected(const struct operation *operation)
+{
+    uint64_t refusal = make(&full, operation);
+    struct pastrulow_answer answer = pastrulow_read_answer(record), expected = operation->expected;
+    memcpy(image, kept, PASTRULOW_IMAGE_BYTES);
+    return refusal == 0 && answer.kind == expected.kind && answer.value == expected.value && answer.size == expected.size &&
+           answer.read == expected.read;
+}
+
+int main(int count, char **arguments)
+{
+    if (count != 4) {
+        for (unsigned i = 0; i < OPERATIONS; i++)
+            printf("%s\n", operations[i].title);
+        return 0;
+    }
+    const struct operation *operation = &operations[strtoul(arguments[1], NULL, 10) % OPERATIONS];
+    unsigned long times = strtoul(arguments[2], NULL, 10);
+    const struct door *door = strcmp(arguments[3], "call") == 0 ? &full : &empty;
+    set_up(operation);
+    if (!as_expected(operation)) {
+        printf("%s: not as expected\n", operation->title);
+        return 1;
+    }
+    for (unsigned long i = 0; i < times; i++) {
+        if (operation->restored)
+            memcpy(image, kept, PASTRULOW_IMAGE_BYTES);
+        make(door, operation);
+    }
+    return 0;
+}

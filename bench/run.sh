@@ -1,0 +1,26 @@
+#!/bin/sh
+# Executed instructions of each operation: the archive's, plain C's, and their ratio. Usage: run.sh DIRECTORY-OF-PROGRAMS
+# Counted: a loop of 2000 less one of 1000, by a thousand, less the same with calls that only return (two instructions,
+# added again). So a number is what the call executes from its first instruction to its return, memset included.
+set -eu
+programs=$1
+
+total() { # program, operation, times, call or empty
+    INSTRUCTIONS="$programs/instructions" qemu-x86_64 -plugin "$programs/libcount.so" "$programs/$1" "$2" "$3" "$4" >&2
+    cat "$programs/instructions"
+}
+
+count() { # program, operation
+    call=$(($(total "$1" "$2" 2000 call) - $(total "$1" "$2" 1000 call)))
+    empty=$(($(total "$1" "$2" 2000 empty) - $(total "$1" "$2" 1000 empty)))
+    echo $(((call - empty) / 1000 + 2))
+}
+
+echo "instructions                         archive  plain C  ratio"
+number=0
+qemu-x86_64 "$programs/bench-archive" | while read -r title; do
+    archive=$(count bench-archive $number)
+    plain=$(count bench-baseline $number)
+    printf '%-34s %9d %8d %6s\n' "$title" "$archive" "$plain" "$(echo "$archive $plain" | awk '{ printf "%.2f", $1 / $2 }')"
+    number=$((number + 1))
+done

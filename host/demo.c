@@ -1,0 +1,106 @@
+/*
+ * An example host: the trial guest of document 01, a few accesses, an INVLPG and a CR3 switch.
+ * It may be copied; it compiles as C11 and as C++17. Link it with libpastrulow.a.
+ */
+#include <inttypes.h>
+#include <stdio.h>
+#include <stdlib.h>
+
+#include "pastrulow.h"
+
+/* All that a host keeps for one processor. */
+static uint8_t image[PASTRULOW_IMAGE_BYTES];
+static uint8_t memory[6 * PASTRULOW_PAGE_BYTES];
+static uint8_t record[PASTRULOW_ANSWER_BYTES];
+
+static void store(uint64_t physical, uint64_t word)
+{
+    for (int i = 0; i < 8; i++)
+        memory[physical + i] = (uint8_t)(word >> 8 * i);
+}
+
+/* Four levels of tables at 0x1000, 0x2000, 0x3000, 0x4000; data pages at 0x5000 and beyond guest memory. */
+static void write_tables(void)
+{
+    store(0x1000, 0x2007);                         /* level 4 */
+    store(0x2000, 0x3007);                         /* level 3 */
+    store(0x2008, 0x40000083);                     /* a 1 GiB page, supervisor's */
+    store(0x3000, 0x4007);                         /* level 2 */
+    store(0x3008, 0x600087);                       /* a 2 MiB page */
+    store(0x4000, 0x5003);                         /* level 1: a supervisor's page */
+    store(0x4008, 0x5005);                         /* read-only */
+    store(0x4010, UINT64_C(0x8000000000005007));   /* not executable */
+    store(0x4020, UINT64_C(0x10000005007));        /* a reserved bit, as the physical width is 40 */
+    store(0x4028, 0x5107);                         /* global */
+}
+
+/* A refusal means that the host has made a mistake: the header says which. */
+static void must(uint64_t refusal, const char *what)
+{
+    if (refusal == 0)
+        return;
+    fprintf(stderr, "%s: refusal %" PRIu64 "\n", what, refusal);
+    exit(1);
+}
+
+static const char *cause(uint64_t code)
+{
+    if (!(code & PASTRULOW_CODE_PRESENT))
+        return "not present";
+    return code & PASTRULOW_CODE_RESERVED ? "reserved bit" : "protection";
+}
+
+static void access_memory(uint64_t kind, uint64_t address)
+{
+    static const char *const names[] = {"read", "write", "fetch", "user read", "user write", "user fetch"};
+    pastrulow_translate(image, sizeof image, memory, sizeof memory, kind, address, record, sizeof record);
+    struct pastrulow_answer answer = pastrulow_read_answer(record);
+    char result[64];
+    if (answer.kind == PASTRULOW_ADDRESS)
+        snprintf(result, sizeof result, "0x%" PRIx64, answer.value);
+    else if (answer.kind == PASTRULOW_FAULT)
+        snprintf(result, sizeof result, "fault 0x%" PRIx64 ", %s", answer.value, cause(answer.value));
+    else
+        snprintf(result, sizeof result, "refusal %" PRIu64, answer.value);
+    printf("0x%016" PRIx64 "  %-10s  %-24s  %10" PRIu64 "  %" PRIu64 "\n", address, names[kind], result, answer.size,
+           answer.read);
+}
+
+int main(void)
+{
+    write_tables();
+    must(pastrulow_start(image, sizeof image, 40, record, sizeof record), "start");
+    must(pastrulow_write_cr3(image, sizeof image, 0x1000, record, sizeof record), "CR3 write");
+    must(pastrulow_write_mode(image, sizeof image, PASTRULOW_PG | PASTRULOW_WP | PASTRULOW_PGE | PASTRULOW_NXE, record,
+                              sizeof record),
+         "mode write");
+
+    printf("%-18s  %-10s  %-24s  %10s  %s\n", "address", "kind", "result", "page size", "entries read");
+    access_memory(PASTRULOW_READ, 0x123);
+    access_memory(PASTRULOW_READ, 0x456);   /* the same page: from the buffer */
+    access_memory(PASTRULOW_WRITE, 0x123);  /* held, but clean: walked again to set the dirty bit */
+    access_memory(PASTRULOW_WRITE, 0x123);
+    access_memory(PASTRULOW_READ, 0x212345);
+    access_memory(PASTRULOW_WRITE, 0x40000010);
+    access_memory(PASTRULOW_READ, 0x5000);
+    access_memory(PASTRULOW_USER_READ, 0x123);
+    access_memory(PASTRULOW_WRITE, 0x1000);
+    access_memory(PASTRULOW_USER_FETCH, 0x2000);
+    access_memory(PASTRULOW_USER_READ, 0x3000);
+    access_memory(PASTRULOW_READ, 0x4000);
+    access_memory(PASTRULOW_READ, UINT64_C(0x800000000000));
+
+    printf("page 0 is unmapped, and INVLPG says so\n");
+    store(0x4000, 0);
+    must(pastrulow_invlpg(image, sizeof image, 0x123, record, sizeof record), "INVLPG");
+    access_memory(PASTRULOW_READ, 0x123);
+    access_memory(PASTRULOW_READ, 0x212345);
+
+    printf("CR3 is switched to a root under which all is read-only: what is not global is dropped\n");
+    store(0x0, 0x2005);
+    must(pastrulow_write_cr3(image, sizeof image, 0, record, sizeof record), "CR3 write");
+    access_memory(PASTRULOW_READ, 0x212345);
+    access_memory(PASTRULOW_WRITE, 0x212345);
+    access_memory(PASTRULOW_READ, 0x5000); /* global: still held */
+    return 0;
+}

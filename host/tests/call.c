@@ -1,0 +1,150 @@
+#include "call.h"
+
+#include <inttypes.h>
+#include <stdio.h>
+
+#include "model.h"
+#include "pastrulow.h"
+
+static enum call_name random_name(struct random *random)
+{
+    uint64_t which = random_below(random, 200);
+    if (which < 150)
+        return TRANSLATE;
+    if (which < 164)
+        return INVLPG;
+    if (which < 179)
+        return INVPCID;
+    if (which < 190)
+        return WRITE_CR3;
+    return which < 199 ? WRITE_MODE : START;
+}
+
+/* Mostly the guest's own flags, else with one or more of them changed; rarely a value that does not exist. */
+static uint64_t random_flags(struct random *random, const struct guest *guest)
+{
+    uint64_t which = random_below(random, 100);
+    if (which < 60)
+        return guest->flags;
+    if (which < 78)
+        return guest->flags ^ PASTRULOW_WP;
+    if (which < 86)
+        return guest->flags ^ UINT64_C(1) << random_below(random, 5);
+    if (which < 95)
+        return random_below(random, 32) | (random_percent(random, 80) ? PASTRULOW_PG : 0);
+    return UINT64_C(1) << random_below(random, 64);
+}
+
+static void random_numbers(struct random *random, const struct guest *guest, struct call *call)
+{
+    bool odd = random_percent(random, 3);
+    uint64_t word = random_percent(random, 50) ? random_word(random) : random_below(random, 70);
+    switch (call->name) {
+    case START:
+        call->numbers[0] = random_percent(random, 40) ? word : guest->width;
+        break;
+    case TRANSLATE:
+        call->numbers[0] = odd ? word : random_below(random, 6);
+        call->numbers[1] = guest_address(random, guest);
+        break;
+    case INVLPG:
+        call->numbers[0] = guest_address(random, guest);
+        break;
+    case INVPCID:
+        call->numbers[0] = odd ? word : random_below(random, random_percent(random, 60) ? 2 : 4);
+        call->numbers[1] = random_percent(random, 3) ? random_word(random) >> random_below(random, 64)
+                                                     : guest->pcids[random_below(random, GUEST_PCIDS)];
+        call->numbers[2] = guest_address(random, guest);
+        break;
+    case WRITE_CR3:
+        call->numbers[0] = guest_cr3(random, guest);
+        break;
+    case WRITE_MODE:
+        call->numbers[0] = random_flags(random, guest);
+        break;
+    }
+}
+
+static size_t wrong_length(struct random *random, size_t right)
+{
+    static const int offsets[] = {-8, -1, 1, 8, 16, LENT_GUARD};
+    if (random_percent(random, 20))
+        return random_below(random, right);
+    return right + (size_t)offsets[random_below(random, sizeof offsets / sizeof *offsets)];
+}
+
+struct call call_make(struct random *random, const struct guest *guest)
+{
+    struct call call = {.name = random_name(random), .image_len = LENT_IMAGE, .answer_len = LENT_ANSWER};
+    random_numbers(random, guest, &call);
+    call.memory_len = LENT_MEMORY;
+    if (random_percent(random, 5))
+        call.memory_len = 4096 * random_below(random, GUEST_PAGES_MAX + 1);
+    if (random_percent(random, 1))
+        call.memory_len = wrong_length(random, call.memory_len == 0 ? LENT_MEMORY : call.memory_len);
+    if (random_percent(random, 1))
+        call.image_len = wrong_length(random, LENT_IMAGE);
+    if (random_percent(random, 1))
+        call.answer_len = wrong_length(random, LENT_ANSWER);
+    return call;
+}
+
+struct call call_begin(const struct guest *guest, unsigned step)
+{
+    static const enum call_name names[3] = {START, WRITE_MODE, WRITE_CR3};
+    const uint64_t numbers[3] = {guest->width, guest->flags, guest->pcids[1]};
+    struct call call = {.name = names[step], .numbers = {numbers[step]}, .image_len = LENT_IMAGE, .answer_len = LENT_ANSWER};
+    return call;
+}
+
+uint64_t call_door(const struct call *call, struct lent *lent)
+{
+    uint8_t *image = lent->bytes + lent->image;
+    uint8_t *memory = lent->bytes + lent->memory;
+    uint8_t *answer = lent->bytes + lent->answer;
+    const uint64_t *n = call->numbers;
+    switch (call->name) {
+    case START:
+        return pastrulow_start(image, call->image_len, n[0], answer, call->answer_len);
+    case TRANSLATE:
+        return pastrulow_translate(image, call->image_len, memory, call->memory_len, n[0], n[1], answer, call->answer_len);
+    case INVLPG:
+        return pastrulow_invlpg(image, call->image_len, n[0], answer, call->answer_len);
+    case INVPCID:
+        return pastrulow_invpcid(image, call->image_len, n[0], n[1], n[2], answer, call->answer_len);
+    case WRITE_CR3:
+        return pastrulow_write_cr3(image, call->image_len, n[0], answer, call->answer_len);
+    default:
+        return pastrulow_write_mode(image, call->image_len, n[0], answer, call->answer_len);
+    }
+}
+
+uint64_t call_model(const struct call *call, struct lent *lent)
+{
+    uint8_t *image = lent->bytes + lent->image;
+    uint8_t *memory = lent->bytes + lent->memory;
+    uint8_t *answer = lent->bytes + lent->answer;
+    const uint64_t *n = call->numbers;
+    switch (call->name) {
+    case START:
+        return model_start(image, call->image_len, n[0], answer, call->answer_len);
+    case TRANSLATE:
+        return model_translate(image, call->image_len, memory, call->memory_len, n[0], n[1], answer, call->answer_len);
+    case INVLPG:
+        return model_invlpg(image, call->image_len, n[0], answer, call->answer_len);
+    case INVPCID:
+        return model_invpcid(image, call->image_len, n[0], n[1], n[2], answer, call->answer_len);
+    case WRITE_CR3:
+        return model_write_cr3(image, call->image_len, n[0], answer, call->answer_len);
+    default:
+        return model_write_mode(image, call->image_len, n[0], answer, call->answer_len);
+    }
+}
+
+void call_print(const struct call *call)
+{
+    static const char *const names[] = {"start", "translate", "invlpg", "invpcid", "write_cr3", "write_mode"};
+    printf("  call %s 0x%" PRIx64 " 0x%" PRIx64 " 0x%" PRIx64 ", image %zu, memory %zu, answer %zu bytes\n",
+           names[call->name], call->numbers[0], call->numbers[1], call->numbers[2], call->image_len, call->memory_len,
+           call->answer_len);
+}

@@ -1,0 +1,131 @@
+/* What can happen in a call, by the rules of document 01. The model counts each, so that a test can say what it has met. */
+#ifndef EVENTS_H
+#define EVENTS_H
+
+#include <stddef.h>
+
+/* Page sizes are numbered 0 (4 KiB), 1 (2 MiB), 2 (1 GiB) wherever events come in threes. */
+#define EVENTS(X)                                                                     \
+    X(HIT_4K, "hit, 4 KiB page")                                                      \
+    X(HIT_2M, "hit, 2 MiB page")                                                      \
+    X(HIT_1G, "hit, 1 GiB page")                                                      \
+    X(HIT_GLOBAL_OTHER, "hit, global slot tagged with another PCID")                  \
+    X(HIT_FALSE_WP, "hit, supervisor's write to a read-only page with WP off")        \
+    X(HIT_WRITE, "hit, write to a dirty slot")                                        \
+    X(HIT_SECOND, "hit with a further match behind it")                               \
+    X(MATCH_BARRED, "first match does not allow the access")                          \
+    X(MATCH_CLEAN, "first match allows the write but is clean (upgrade)")             \
+    X(MISS_DROP_4K, "4 KiB slots dropped before a walk")                              \
+    X(MISS_DROP_2M, "2 MiB slots dropped before a walk")                              \
+    X(MISS_DROP_1G, "1 GiB slots dropped before a walk")                              \
+    X(MISS_DROP_SEVERAL, "misses that dropped several matches")                       \
+    X(FILL_4K, "fill, 4 KiB page")                                                    \
+    X(FILL_2M, "fill, 2 MiB page")                                                    \
+    X(FILL_1G, "fill, 1 GiB page")                                                    \
+    X(FILL_GLOBAL, "fill, global")                                                    \
+    X(FILL_PGE_OFF, "fill, bit 8 set but PGE off")                                    \
+    X(FILL_CLEAN, "fill, clean")                                                      \
+    X(FILL_DIRTY_READ, "fill, dirty by an access that is no write")                   \
+    X(FILL_GAP, "fill, a free way below a held one")                                  \
+    X(EVICT_4K, "eviction, 4 KiB page")                                               \
+    X(EVICT_2M, "eviction, 2 MiB page")                                               \
+    X(EVICT_1G, "eviction, 1 GiB page")                                               \
+    X(VICTIM_WRAPS, "victim number moves from 3 to 0")                                \
+    X(ABSENT_1, "fault, not present, level 1")                                        \
+    X(ABSENT_2, "fault, not present, level 2")                                        \
+    X(ABSENT_3, "fault, not present, level 3")                                        \
+    X(ABSENT_4, "fault, not present, level 4")                                        \
+    X(RESERVED_1, "fault, reserved bit, level 1")                                     \
+    X(RESERVED_2, "fault, reserved bit, level 2")                                     \
+    X(RESERVED_3, "fault, reserved bit, level 3")                                     \
+    X(RESERVED_4, "fault, reserved bit, level 4")                                     \
+    X(PROTECTED_1, "fault, protection, level 1")                                      \
+    X(PROTECTED_2, "fault, protection, level 2")                                      \
+    X(PROTECTED_3, "fault, protection, level 3")                                      \
+    X(RESERVED_BY_WIDTH, "reserved: a bit of 51..M")                                  \
+    X(RESERVED_BY_XD, "reserved: bit 63 with NXE off")                                \
+    X(RESERVED_BY_LENGTH, "reserved: a bit below a large page's base")                \
+    X(RESERVED_TOP_PS, "reserved: bit 7 at level 4")                                  \
+    X(ABSENT_BELOW_BARRED, "not present below an entry that forbids the access")      \
+    X(BARRED_USER, "protection: user access to a supervisor's page")                  \
+    X(BARRED_WRITE, "protection: write to a read-only page")                          \
+    X(BARRED_FETCH, "protection: fetch from a page with bit 63")                      \
+    X(BARRED_ABOVE, "protection: only an upper entry forbids it")                     \
+    X(WALK_FALSE_WP, "walk, supervisor's write to a read-only page with WP off")      \
+    X(OUTSIDE_1, "entry outside guest memory, level 1")                               \
+    X(OUTSIDE_2, "entry outside guest memory, level 2")                               \
+    X(OUTSIDE_3, "entry outside guest memory, level 3")                               \
+    X(OUTSIDE_4, "entry outside guest memory, level 4")                               \
+    X(OUTSIDE_PAGE, "page whose entry lies outside guest memory")                     \
+    X(ENTRY_TWICE, "successful walk that reads one word at two levels")               \
+    X(ACCESSED_UPPER, "accessed bit newly set above the page's entry")                \
+    X(ACCESSED_PAGE, "accessed bit newly set in the page's entry")                    \
+    X(DIRTY_4K, "dirty bit newly set, 4 KiB page")                                    \
+    X(DIRTY_2M, "dirty bit newly set, 2 MiB page")                                    \
+    X(DIRTY_1G, "dirty bit newly set, 1 GiB page")                                    \
+    X(PAGING_OFF, "address given with paging off")                                    \
+    X(START_1, "start refused 1")                                                     \
+    X(START_2_LENGTH, "start refused 2, length")                                      \
+    X(START_2_WIDTH, "start refused 2, width")                                        \
+    X(START_DONE, "start done")                                                       \
+    X(TRANSLATE_1, "translate refused 1")                                             \
+    X(TRANSLATE_2, "translate refused 2")                                             \
+    X(TRANSLATE_3, "translate refused 3")                                             \
+    X(TRANSLATE_4, "translate refused 4")                                             \
+    X(TRANSLATE_5_ON, "translate refused 5, paging on")                               \
+    X(TRANSLATE_5_OFF, "translate refused 5, paging off")                             \
+    X(INVLPG_1, "INVLPG refused 1")                                                   \
+    X(INVLPG_2, "INVLPG refused 2")                                                   \
+    X(INVLPG_OUTSIDE, "INVLPG done, address not canonical")                           \
+    X(INVLPG_DROP_4K, "INVLPG drops a 4 KiB slot")                                    \
+    X(INVLPG_DROP_2M, "INVLPG drops a 2 MiB slot")                                    \
+    X(INVLPG_DROP_1G, "INVLPG drops a 1 GiB slot")                                    \
+    X(INVLPG_DROP_GLOBAL, "INVLPG drops a global slot")                               \
+    X(INVLPG_SPARES, "INVLPG spares another PCID's slot of the address")              \
+    X(INVPCID_1, "INVPCID refused 1")                                                 \
+    X(INVPCID_2, "INVPCID refused 2")                                                 \
+    X(INVPCID_8_TYPE, "INVPCID refused 8, type")                                      \
+    X(INVPCID_8_PCID, "INVPCID refused 8, PCID above 4095")                           \
+    X(INVPCID_8_ADDRESS, "INVPCID refused 8, address")                                \
+    X(INVPCID_8_OFF, "INVPCID refused 8, PCID with PCIDE off")                        \
+    X(INVPCID_0_DROP, "INVPCID type 0 drops a slot")                                  \
+    X(INVPCID_0_SPARES, "INVPCID type 0 spares a global slot of the address")         \
+    X(INVPCID_1_DROP, "INVPCID type 1 drops a slot")                                  \
+    X(INVPCID_1_SPARES, "INVPCID type 1 spares a global slot of the PCID")            \
+    X(INVPCID_2_DROP, "INVPCID type 2 drops a slot")                                  \
+    X(INVPCID_3_DROP, "INVPCID type 3 drops a slot")                                  \
+    X(INVPCID_3_SPARES, "INVPCID type 3 spares a global slot")                        \
+    X(CR3_1, "CR3 write refused 1")                                                   \
+    X(CR3_2, "CR3 write refused 2")                                                   \
+    X(CR3_6_BITS, "CR3 write refused 6, a bit of 62..M")                              \
+    X(CR3_6_KEEP, "CR3 write refused 6, bit 63 with PCIDE off")                       \
+    X(CR3_KEEPS, "CR3 write with bit 63, drops nothing")                              \
+    X(CR3_DROP, "CR3 write drops a slot")                                             \
+    X(CR3_SPARES_GLOBAL, "CR3 write spares a global slot of the PCID")                \
+    X(CR3_SPARES_OTHER, "CR3 write spares another PCID's slot")                       \
+    X(MODE_1, "mode write refused 1")                                                 \
+    X(MODE_2, "mode write refused 2")                                                 \
+    X(MODE_7_VALUE, "mode write refused 7, value above 31")                           \
+    X(MODE_7_PG, "mode write refused 7, PCIDE without PG")                            \
+    X(MODE_7_CR3, "mode write refused 7, PCIDE turned on over CR3's low bits")        \
+    X(MODE_DROP, "mode write drops a slot")                                           \
+    X(MODE_KEEPS, "mode write that changes WP alone and keeps slots")                 \
+    X(IMAGE_LENGTH, "refusal 2 by the image's length")                                \
+    X(IMAGE_WIDTH, "refusal 2 by word 0")                                             \
+    X(IMAGE_FLAGS, "refusal 2 by word 1")                                             \
+    X(IMAGE_VICTIMS, "refusal 2 by word 3")                                           \
+    X(IMAGE_REST, "refusal 2 by words 204 to 255")                                    \
+    X(DROP_NOT_HELD, "a slot that is not held but not zero is dropped")
+
+enum event {
+#define EVENT_NAME(name, text) EVENT_##name,
+    EVENTS(EVENT_NAME)
+#undef EVENT_NAME
+        EVENT_COUNT
+};
+
+void event(enum event which);
+/* Prints every event with its count and gives the number of those that never happened. */
+size_t events_print(void);
+
+#endif

@@ -1,0 +1,29 @@
+/* A machine as a host has it: an image and guest memory; each call through the archive, its record read. */
+#ifndef MACHINE_H
+#define MACHINE_H
+
+#include <stdbool.h>
+
+#include "pastrulow.h"
+
+struct machine {
+    uint8_t image[PASTRULOW_IMAGE_BYTES];
+    uint8_t *memory;
+    size_t memory_len;
+};
+
+/* Each of these ends the program if the number returned is not the one that the record says. */
+struct pastrulow_answer machine_start(struct machine *machine, uint64_t width);
+struct pastrulow_answer machine_translate(struct machine *machine, uint64_t kind, uint64_t address);
+struct pastrulow_answer machine_invlpg(struct machine *machine, uint64_t address);
+struct pastrulow_answer machine_invpcid(struct machine *machine, uint64_t type, uint64_t pcid, uint64_t address);
+struct pastrulow_answer machine_write_cr3(struct machine *machine, uint64_t value);
+struct pastrulow_answer machine_write_mode(struct machine *machine, uint64_t flags);
+
+uint64_t machine_word(const struct machine *machine, uint64_t address);
+void machine_put_word(struct machine *machine, uint64_t address, uint64_t word);
+
+bool same_answer(struct pastrulow_answer one, struct pastrulow_answer other);
+void print_answer(const char *title, struct pastrulow_answer answer);
+
+#endif

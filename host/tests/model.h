@@ -1,0 +1,20 @@
+/*
+ * Document 01 once more, in plain C: the same six calls as pastrulow.h, written from the paper alone, slow and simple.
+ * The model counts what happens (events.h).
+ */
+#ifndef MODEL_H
+#define MODEL_H
+
+#include <stddef.h>
+#include <stdint.h>
+
+uint64_t model_start(uint8_t *image, size_t image_len, uint64_t width, uint8_t *answer, size_t answer_len);
+uint64_t model_translate(uint8_t *image, size_t image_len, uint8_t *memory, size_t memory_len, uint64_t kind,
+                         uint64_t address, uint8_t *answer, size_t answer_len);
+uint64_t model_invlpg(uint8_t *image, size_t image_len, uint64_t address, uint8_t *answer, size_t answer_len);
+uint64_t model_invpcid(uint8_t *image, size_t image_len, uint64_t type, uint64_t pcid, uint64_t address, uint8_t *answer,
+                       size_t answer_len);
+uint64_t model_write_cr3(uint8_t *image, size_t image_len, uint64_t value, uint8_t *answer, size_t answer_len);
+uint64_t model_write_mode(uint8_t *image, size_t image_len, uint64_t flags, uint8_t *answer, size_t answer_len);
+
+#endif

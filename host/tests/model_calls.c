@@ -1,0 +1,227 @@
+/* The model: refusals, and the five calls that are lent no guest memory. */
+#include "model.h"
+
+#include "model_parts.h"
+
+void put_answer(uint8_t *answer, uint64_t kind, uint64_t value, uint64_t size, uint64_t read)
+{
+    put_word(answer, kind);
+    put_word(answer + 8, value);
+    put_word(answer + 16, size);
+    put_word(answer + 24, read);
+}
+
+uint64_t refused(uint8_t *answer, uint64_t number, enum event which)
+{
+    event(which);
+    if (number != 1)
+        put_answer(answer, REFUSED, number, 0, 0);
+    return number;
+}
+
+static uint64_t done(uint8_t *image, const struct state *state, uint8_t *answer)
+{
+    encode(state, image);
+    put_answer(answer, DONE, 0, 0, 0);
+    return 0;
+}
+
+static bool width_allowed(uint64_t width)
+{
+    return width >= 36 && width <= 52;
+}
+
+bool bad_image(const uint8_t *image, size_t image_len)
+{
+    if (image_len != 2048) {
+        event(EVENT_IMAGE_LENGTH);
+        return true;
+    }
+    struct state state = decode(image);
+    bool bad_rest = false;
+    for (unsigned i = 0; i < REST_WORDS; i++)
+        bad_rest = bad_rest || state.rest[i] != 0;
+    bool bad_flags = bits(state.flags, 63, 5) != 0;
+    bool bad_victims = bits(state.victims, 63, 50) != 0;
+    if (!width_allowed(state.width))
+        event(EVENT_IMAGE_WIDTH);
+    if (bad_flags)
+        event(EVENT_IMAGE_FLAGS);
+    if (bad_victims)
+        event(EVENT_IMAGE_VICTIMS);
+    if (bad_rest)
+        event(EVENT_IMAGE_REST);
+    return !width_allowed(state.width) || bad_flags || bad_victims || bad_rest;
+}
+
+uint64_t model_start(uint8_t *image, size_t image_len, uint64_t width, uint8_t *answer, size_t answer_len)
+{
+    if (answer_len != 32)
+        return refused(answer, 1, EVENT_START_1);
+    if (image_len != 2048)
+        return refused(answer, 2, EVENT_START_2_LENGTH);
+    if (!width_allowed(width))
+        return refused(answer, 2, EVENT_START_2_WIDTH);
+    struct state state = {.width = width};
+    event(EVENT_START_DONE);
+    return done(image, &state, answer);
+}
+
+static void count_invlpg(const struct state *state, unsigned number)
+{
+    event(EVENT_INVLPG_DROP_4K + slot_size(number));
+    if (slot_global(state->slots[number]))
+        event(EVENT_INVLPG_DROP_GLOBAL);
+}
+
+uint64_t model_invlpg(uint8_t *image, size_t image_len, uint64_t address, uint8_t *answer, size_t answer_len)
+{
+    if (answer_len != 32)
+        return refused(answer, 1, EVENT_INVLPG_1);
+    if (bad_image(image, image_len))
+        return refused(answer, 2, EVENT_INVLPG_2);
+    struct state state = decode(image);
+    if (!canonical(address)) {
+        event(EVENT_INVLPG_OUTSIDE);
+        return done(image, &state, answer);
+    }
+    for (unsigned i = 0; i < SLOTS; i++) {
+        if (slot_matches(&state, i, address)) {
+            count_invlpg(&state, i);
+            drop(&state, i);
+        } else if (slot_held(state.slots[i]) && slot_in_place(&state, i, address)) {
+            event(EVENT_INVLPG_SPARES);
+        }
+    }
+    return done(image, &state, answer);
+}
+
+/* Refusal 8. The event says which of its conditions holds; if several do, the first. */
+static bool invpcid_refused(const struct state *state, uint64_t type, uint64_t pcid, uint64_t address, enum event *which)
+{
+    *which = EVENT_INVPCID_8_TYPE;
+    if (type > 3)
+        return true;
+    *which = EVENT_INVPCID_8_PCID;
+    if (pcid > 4095)
+        return true;
+    *which = EVENT_INVPCID_8_ADDRESS;
+    if (type == 0 && !canonical(address))
+        return true;
+    *which = EVENT_INVPCID_8_OFF;
+    return (type == 0 || type == 1) && !state->pcide && pcid != 0;
+}
+
+/* What INVPCID drops, global slots aside. */
+static bool invpcid_names(const struct state *state, uint64_t type, uint64_t pcid, uint64_t address, unsigned number)
+{
+    bool of_pcid = slot_pcid(state->slots[number]) == pcid;
+    switch (type) {
+    case 0:
+        return slot_in_place(state, number, address) && of_pcid;
+    case 1:
+        return of_pcid;
+    default:
+        return true;
+    }
+}
+
+static void invpcid_slot(struct state *state, uint64_t type, uint64_t pcid, uint64_t address, unsigned number)
+{
+    static const enum event drops[4] = {EVENT_INVPCID_0_DROP, EVENT_INVPCID_1_DROP, EVENT_INVPCID_2_DROP,
+                                        EVENT_INVPCID_3_DROP};
+    static const enum event spares[4] = {EVENT_INVPCID_0_SPARES, EVENT_INVPCID_1_SPARES, EVENT_COUNT,
+                                         EVENT_INVPCID_3_SPARES};
+    bool held = slot_held(state->slots[number]);
+    if (!invpcid_names(state, type, pcid, address, number))
+        return;
+    if (type != 2 && slot_global(state->slots[number])) {
+        if (held)
+            event(spares[type]);
+        return;
+    }
+    if (held)
+        event(drops[type]);
+    drop(state, number);
+}
+
+uint64_t model_invpcid(uint8_t *image, size_t image_len, uint64_t type, uint64_t pcid, uint64_t address, uint8_t *answer,
+                       size_t answer_len)
+{
+    if (answer_len != 32)
+        return refused(answer, 1, EVENT_INVPCID_1);
+    if (bad_image(image, image_len))
+        return refused(answer, 2, EVENT_INVPCID_2);
+    struct state state = decode(image);
+    enum event which;
+    if (invpcid_refused(&state, type, pcid, address, &which))
+        return refused(answer, 8, which);
+    for (unsigned i = 0; i < SLOTS; i++)
+        invpcid_slot(&state, type, pcid, address, i);
+    return done(image, &state, answer);
+}
+
+static void cr3_slot(struct state *state, unsigned number)
+{
+    struct slot slot = state->slots[number];
+    bool current = slot_pcid(slot) == current_pcid(state);
+    if (current && !slot_global(slot)) {
+        if (slot_held(slot))
+            event(EVENT_CR3_DROP);
+        drop(state, number);
+    } else if (slot_held(slot)) {
+        event(current ? EVENT_CR3_SPARES_GLOBAL : EVENT_CR3_SPARES_OTHER);
+    }
+}
+
+uint64_t model_write_cr3(uint8_t *image, size_t image_len, uint64_t value, uint8_t *answer, size_t answer_len)
+{
+    if (answer_len != 32)
+        return refused(answer, 1, EVENT_CR3_1);
+    if (bad_image(image, image_len))
+        return refused(answer, 2, EVENT_CR3_2);
+    struct state state = decode(image);
+    if (bits(value, 62, (unsigned)state.width) != 0)
+        return refused(answer, 6, EVENT_CR3_6_BITS);
+    if (bit(value, 63) && !state.pcide)
+        return refused(answer, 6, EVENT_CR3_6_KEEP);
+    state.cr3 = bits(value, 62, 0);
+    if (bit(value, 63)) {
+        event(EVENT_CR3_KEEPS);
+        return done(image, &state, answer);
+    }
+    for (unsigned i = 0; i < SLOTS; i++)
+        cr3_slot(&state, i);
+    return done(image, &state, answer);
+}
+
+static void drop_all(struct state *state)
+{
+    for (unsigned i = 0; i < SLOTS; i++) {
+        if (slot_held(state->slots[i]))
+            event(EVENT_MODE_DROP);
+        drop(state, i);
+    }
+}
+
+uint64_t model_write_mode(uint8_t *image, size_t image_len, uint64_t flags, uint8_t *answer, size_t answer_len)
+{
+    if (answer_len != 32)
+        return refused(answer, 1, EVENT_MODE_1);
+    if (bad_image(image, image_len))
+        return refused(answer, 2, EVENT_MODE_2);
+    struct state before = decode(image);
+    struct state after = before;
+    set_flags(&after, flags);
+    if (flags > 31)
+        return refused(answer, 7, EVENT_MODE_7_VALUE);
+    if (after.pcide && !after.pg)
+        return refused(answer, 7, EVENT_MODE_7_PG);
+    if (after.pcide && !before.pcide && bits(before.cr3, 11, 0) != 0)
+        return refused(answer, 7, EVENT_MODE_7_CR3);
+    if (after.pg != before.pg || after.pge != before.pge || after.pcide != before.pcide || after.nxe != before.nxe)
+        drop_all(&after);
+    else if (after.wp != before.wp)
+        event(EVENT_MODE_KEEPS);
+    return done(image, &after, answer);
+}

@@ -1,0 +1,117 @@
+/* Single accesses with a cold buffer, as Bochs made them: vectors_bochs bochs.txt */
+#include <inttypes.h>
+#include <stdlib.h>
+#include <string.h>
+
+#include "vectors.h"
+
+struct single {
+    uint64_t id, flags, ac, width, cr3, kind, address;
+    struct pastrulow_answer result;
+    bool beyond; /* noted beyond-64k: memory that the case does not give */
+};
+
+static uint8_t memory[VECTOR_MEMORY], expected_memory[VECTOR_MEMORY];
+static struct machine machine = {.memory = memory, .memory_len = VECTOR_MEMORY};
+static struct machine expected = {.memory = expected_memory, .memory_len = VECTOR_MEMORY};
+static unsigned long made, addresses, faults, refusals, hits, newer_flags, ac_set, beyond_memory, failed;
+
+static void wrong(const struct single *single, const char *what, struct pastrulow_answer came)
+{
+    printf("case %" PRIx64 ": %s\n", single->id, what);
+    print_answer("expected", single->result);
+    print_answer("came", came);
+    failed++;
+}
+
+static bool applies(const struct single *single)
+{
+    if (single->beyond)
+        beyond_memory++;
+    else if (single->flags > VECTOR_FLAGS)
+        newer_flags++;
+    else if (single->ac != 0)
+        ac_set++;
+    else
+        return true;
+    return false;
+}
+
+/* The access once more: a page that was found is held now. */
+static void make_again(const struct single *single)
+{
+    struct pastrulow_answer again = machine_translate(&machine, single->kind, single->address);
+    if (!same_result(again, single->result) || (again.kind == PASTRULOW_ADDRESS && again.read != 0))
+        wrong(single, "the same access again", again);
+    hits += again.kind == PASTRULOW_ADDRESS && again.read == 0;
+}
+
+static void make(const struct single *single)
+{
+    made++;
+    if (machine_start(&machine, single->width).kind != PASTRULOW_DONE ||
+        machine_write_mode(&machine, single->flags).kind != PASTRULOW_DONE ||
+        machine_write_cr3(&machine, single->cr3).kind != PASTRULOW_DONE) {
+        wrong(single, "setting up was refused", single->result);
+        return;
+    }
+    struct pastrulow_answer answer = machine_translate(&machine, single->kind, single->address);
+    addresses += answer.kind == PASTRULOW_ADDRESS;
+    faults += answer.kind == PASTRULOW_FAULT;
+    refusals += answer.kind == PASTRULOW_REFUSED;
+    if (!same_result(answer, single->result) || (answer.kind != PASTRULOW_REFUSED && answer.read == 0))
+        wrong(single, "result", answer);
+    if (memcmp(memory, expected_memory, sizeof memory) != 0)
+        wrong(single, "guest memory", answer);
+    make_again(single);
+}
+
+/* A line of the case; its words go into the memory before it and the memory expected after. */
+static void take_line(struct single *single, const char *line)
+{
+    if (sscanf(line, "case %" SCNx64, &single->id) == 1)
+        return;
+    if (sscanf(line, "flags %" SCNx64 " ac %" SCNx64 " m %" SCNx64 " cr3 %" SCNx64 " kind %" SCNx64 " addr %" SCNx64,
+               &single->flags, &single->ac, &single->width, &single->cr3, &single->kind, &single->address) == 6)
+        return;
+    if (strncmp(line, "before", 6) == 0)
+        put_words(&machine, line + 6);
+    else if (strncmp(line, "after", 5) == 0)
+        put_words(&expected, line + 5);
+    else if (strncmp(line, "result ", 7) == 0)
+        single->result = read_result(line + 7, single->kind);
+    else if (strcmp(line, "note beyond-64k") == 0)
+        single->beyond = true;
+    else if (strncmp(line, "note ", 5) != 0)
+        bad_line(line);
+}
+
+static void end_case(struct single *single)
+{
+    struct single none = {0};
+    if (single->width != 0 && applies(single))
+        make(single);
+    *single = none;
+    memset(memory, 0, sizeof memory);
+    memset(expected_memory, 0, sizeof expected_memory);
+}
+
+int main(int count, char **arguments)
+{
+    FILE *file = open_vectors(count, arguments, 1, "vectors_bochs bochs.txt");
+    struct single single = {0};
+    for (char *line = next_line(file); line != NULL; line = next_line(file)) {
+        if (line[0] == 0)
+            end_case(&single);
+        else if (line[0] != '#')
+            take_line(&single, line);
+    }
+    end_case(&single);
+    fclose(file);
+    printf("bochs: %lu accesses made: %lu addresses, %lu faults, %lu refused; %lu hits when made again\n", made, addresses,
+           faults, refusals, hits);
+    printf("bochs: skipped: %lu with flags above 1f and %lu with AC set (request W-205), %lu noted beyond-64k\n", newer_flags,
+           ac_set, beyond_memory);
+    printf("bochs: %lu failed\n", failed);
+    return failed != 0 || made == 0;
+}

@@ -1,0 +1,190 @@
+/*
+ * The pages of a running Linux, as QEMU listed them: vectors_linux linux-guest.bin linux-guest.txt
+ * Each page is asked for by all six kinds, cold, again, and warm from the other kinds, with write protect on and off.
+ */
+#include <inttypes.h>
+#include <stdlib.h>
+#include <string.h>
+
+#include "vectors.h"
+
+struct page {
+    uint64_t virtual, physical, size;
+    bool user, writable, executable;
+};
+
+static struct machine machine;
+static uint64_t width, flags;
+static bool write_protect;
+static unsigned long roots, pages, singles, absent, hits, misses, faults, failed;
+
+static void must_be_done(struct pastrulow_answer answer, const char *what)
+{
+    if (answer.kind == PASTRULOW_DONE)
+        return;
+    printf("%s was not done\n", what);
+    exit(1);
+}
+
+static void load_tables(FILE *file)
+{
+    uint8_t record[8 + PASTRULOW_PAGE_BYTES];
+    unsigned long loaded = 0;
+    while (fread(record, sizeof record, 1, file) == 1) {
+        uint64_t address = pastrulow_word(record);
+        if (address % PASTRULOW_PAGE_BYTES != 0 || address >= machine.memory_len)
+            bad_line("a table outside guest memory");
+        memcpy(machine.memory + address, record + 8, PASTRULOW_PAGE_BYTES);
+        loaded++;
+    }
+    printf("linux: %lu pages of tables in %zu MiB\n", loaded, machine.memory_len >> 20);
+}
+
+/* What the rights of a page, and write protect, let an access of this kind come to. */
+static struct pastrulow_answer due(const struct page *page, uint64_t kind, uint64_t address)
+{
+    bool user = kind >= PASTRULOW_USER_READ;
+    bool write = kind % 3 == PASTRULOW_WRITE;
+    bool fetch = kind % 3 == PASTRULOW_FETCH;
+    bool barred = (user && !page->user) || (write && !page->writable && (user || write_protect)) ||
+                  (fetch && !page->executable);
+    struct pastrulow_answer answer = {PASTRULOW_ADDRESS, page->physical + (address - page->virtual), page->size, 0};
+    if (barred) {
+        answer.kind = PASTRULOW_FAULT;
+        answer.size = 0;
+        answer.value = PASTRULOW_CODE_PRESENT | (write ? PASTRULOW_CODE_WRITE : 0) | (user ? PASTRULOW_CODE_USER : 0) |
+                       (fetch ? PASTRULOW_CODE_FETCH : 0);
+    }
+    return answer;
+}
+
+static void wrong(uint64_t kind, uint64_t address, struct pastrulow_answer expected, struct pastrulow_answer came)
+{
+    printf("kind %" PRIu64 " at %" PRIx64 "\n", kind, address);
+    print_answer("expected", expected);
+    print_answer("came", came);
+    failed++;
+}
+
+enum warmth { COLD, HELD, EITHER };
+
+/* The entries read must fit: all levels if cold, none if the page is held. A fault always walks. */
+static void ask(const struct page *page, uint64_t kind, uint64_t address, enum warmth warmth)
+{
+    struct pastrulow_answer expected = due(page, kind, address);
+    struct pastrulow_answer came = machine_translate(&machine, kind, address);
+    uint64_t levels = page->size == 4096 ? 4 : page->size == 2097152 ? 3 : 2;
+    bool hit = came.kind == PASTRULOW_ADDRESS && came.read == 0;
+    bool may_hit = warmth != COLD && expected.kind == PASTRULOW_ADDRESS;
+    bool may_miss = warmth != HELD || expected.kind == PASTRULOW_FAULT;
+    hits += hit;
+    misses += came.kind == PASTRULOW_ADDRESS && !hit;
+    faults += came.kind == PASTRULOW_FAULT;
+    if (!same_result(came, expected) || !((hit && may_hit) || (came.read == levels && may_miss)))
+        wrong(kind, address, expected, came);
+}
+
+static void try_page(const struct page *page)
+{
+    uint64_t last = page->virtual + page->size - 1;
+    for (uint64_t kind = 0; kind <= PASTRULOW_USER_FETCH; kind++) {
+        must_be_done(machine_invlpg(&machine, page->virtual), "INVLPG");
+        ask(page, kind, page->virtual, COLD);
+        ask(page, kind, last, HELD);
+    }
+    for (uint64_t kind = 0; kind <= PASTRULOW_USER_FETCH; kind++)
+        ask(page, kind, page->virtual, EITHER);
+}
+
+static void take_page(const char *line)
+{
+    struct page page;
+    char marks[16], rights[8], fetch[4];
+    if (sscanf(line, "t %" SCNx64 " %" SCNx64 " %" SCNx64 " %15s %7s %3s", &page.virtual, &page.physical, &page.size, marks,
+               rights, fetch) != 6)
+        bad_line(line);
+    page.user = strchr(rights, 'u') != NULL;
+    page.writable = strchr(rights, 'w') != NULL;
+    page.executable = fetch[0] == 'x';
+    pages++;
+    for (int wp = 1; wp >= 0; wp--) {
+        write_protect = wp == 1;
+        uint64_t mode = write_protect ? flags | PASTRULOW_WP : flags & ~PASTRULOW_WP;
+        must_be_done(machine_write_mode(&machine, mode), "mode write");
+        try_page(&page);
+    }
+}
+
+/* One address that QEMU was asked for: where it lies, or that nothing is there. */
+static void take_single(const char *line)
+{
+    uint64_t address, physical;
+    int numbers = sscanf(line, "g %" SCNx64 " %" SCNx64, &address, &physical);
+    if (numbers < 1 || (numbers == 1 && strstr(line, " none") == NULL))
+        bad_line(line);
+    struct pastrulow_answer came = machine_translate(&machine, PASTRULOW_READ, address);
+    struct pastrulow_answer expected = {numbers == 2 ? PASTRULOW_ADDRESS : PASTRULOW_FAULT, numbers == 2 ? physical : 0,
+                                        numbers == 2 ? came.size : 0, came.read};
+    singles++;
+    absent += numbers == 1;
+    if (!same_answer(came, expected))
+        wrong(PASTRULOW_READ, address, expected, came);
+}
+
+static void take_machine(const char *line)
+{
+    uint64_t low, high;
+    if (sscanf(line, "machine low %" SCNx64 " high %" SCNx64 " m %" SCNx64 " flags %" SCNx64, &low, &high, &width,
+               &flags) != 4 ||
+        high != 0)
+        bad_line(line);
+    flags &= VECTOR_FLAGS;
+    machine.memory_len = low;
+    machine.memory = calloc(1, low);
+    if (machine.memory == NULL)
+        bad_line("no room for guest memory");
+}
+
+static void take_root(const char *line)
+{
+    uint64_t cr3;
+    if (sscanf(line, "root cr3 %" SCNx64, &cr3) != 1)
+        bad_line(line);
+    must_be_done(machine_start(&machine, width), "start");
+    must_be_done(machine_write_mode(&machine, flags), "mode write");
+    must_be_done(machine_write_cr3(&machine, cr3), "CR3 write");
+    roots++;
+}
+
+static void take_line(FILE *tables, const char *line)
+{
+    if (strncmp(line, "machine", 7) == 0) {
+        take_machine(line);
+        load_tables(tables);
+    } else if (strncmp(line, "root", 4) == 0) {
+        take_root(line);
+    } else if (line[0] == 't') {
+        take_page(line);
+    } else if (line[0] == 'g') {
+        take_single(line);
+    } else if (line[0] != '#' && line[0] != 0) {
+        bad_line(line);
+    }
+}
+
+int main(int count, char **arguments)
+{
+    static const char usage[] = "vectors_linux linux-guest.bin linux-guest.txt";
+    FILE *tables = open_vectors(count, arguments, 1, usage);
+    FILE *list = open_vectors(count, arguments, 2, usage);
+    for (char *line = next_line(list); line != NULL; line = next_line(list))
+        take_line(tables, line);
+    fclose(tables);
+    fclose(list);
+    free(machine.memory);
+    printf("linux: %lu pages under %lu roots, six kinds each, and %lu single addresses, %lu of them not mapped\n", pages, roots,
+           singles, absent);
+    printf("linux: %lu hits, %lu misses, %lu faults\n", hits, misses, faults);
+    printf("linux: %lu failed\n", failed);
+    return failed != 0 || pages == 0;
+}

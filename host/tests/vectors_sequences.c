@@ -1,0 +1,134 @@
+/* Sequences of operations with a warm buffer, as Bochs made them: vectors_sequences sequences.txt */
+#include <inttypes.h>
+#include <stdlib.h>
+#include <string.h>
+
+#include "vectors.h"
+
+static uint8_t memory[VECTOR_MEMORY], expected_memory[VECTOR_MEMORY];
+static struct machine machine = {.memory = memory, .memory_len = VECTOR_MEMORY};
+static struct machine expected = {.memory = expected_memory, .memory_len = VECTOR_MEMORY};
+static unsigned long sequence;
+static bool beyond; /* the sequence has set a flag above 1f: what follows in it does not apply */
+static unsigned long whole, cut, hits, misses, faults, operations, stores, skipped, failed;
+
+static void wrong(const char *line)
+{
+    printf("sequence %lx: %s\n", sequence, line);
+    failed++;
+}
+
+static void begin(const char *line)
+{
+    if (sscanf(line, "# sequence %lx", &sequence) != 1)
+        return;
+    memset(memory, 0, sizeof memory);
+    memset(machine.image, 0, sizeof machine.image);
+    beyond = false;
+}
+
+/* The tables at the sequence's end. */
+static void end(const char *words)
+{
+    if (beyond) {
+        cut++;
+        return;
+    }
+    whole++;
+    memset(expected_memory, 0, sizeof expected_memory);
+    put_words(&expected, words);
+    if (memcmp(memory, expected_memory, sizeof memory) != 0)
+        wrong("guest memory at the end");
+}
+
+static void translate(const char *line)
+{
+    uint64_t kind, address;
+    const char *result = strstr(line, "=\t");
+    if (result == NULL || sscanf(line, "T %" SCNx64 " %" SCNx64, &kind, &address) != 2)
+        bad_line(line);
+    struct pastrulow_answer recorded = read_result(result + 2, kind);
+    struct pastrulow_answer answer = machine_translate(&machine, kind, address);
+    hits += answer.kind == PASTRULOW_ADDRESS && answer.read == 0;
+    misses += answer.kind == PASTRULOW_ADDRESS && answer.read != 0;
+    faults += answer.kind == PASTRULOW_FAULT;
+    if (!same_result(answer, recorded)) {
+        wrong(line);
+        print_answer("came", answer);
+    }
+}
+
+static void store(const char *line)
+{
+    uint64_t address, word;
+    if (sscanf(line, "P %" SCNx64 " %" SCNx64, &address, &word) != 2 || address % 8 != 0 || address >= VECTOR_MEMORY)
+        bad_line(line);
+    machine_put_word(&machine, address, word);
+    stores++;
+}
+
+/* One of the operations that answer "done". */
+static void operate(const char *line)
+{
+    uint64_t one = 0, two = 0, three = 0;
+    int numbers = sscanf(line + 1, " %" SCNx64 " %" SCNx64 " %" SCNx64, &one, &two, &three);
+    struct pastrulow_answer answer = {0, 0, 0, 0};
+    if (numbers != (line[0] == 'V' ? 3 : 1))
+        bad_line(line);
+    switch (line[0]) {
+    case 'S':
+        answer = machine_start(&machine, one);
+        break;
+    case 'M':
+        answer = machine_write_mode(&machine, one);
+        break;
+    case 'C':
+        answer = machine_write_cr3(&machine, one);
+        break;
+    case 'I':
+        answer = machine_invlpg(&machine, one);
+        break;
+    case 'V':
+        answer = machine_invpcid(&machine, one, two, three);
+        break;
+    default:
+        bad_line(line);
+    }
+    operations++;
+    if (answer.kind != PASTRULOW_DONE)
+        wrong(line);
+}
+
+static void take_line(const char *line)
+{
+    uint64_t flags;
+    if (strncmp(line, "# words ", 8) == 0) {
+        end(line + 8);
+    } else if (line[0] == '#') {
+        begin(line);
+    } else {
+        beyond = beyond || (sscanf(line, "M %" SCNx64, &flags) == 1 && flags > VECTOR_FLAGS);
+        if (beyond)
+            skipped++;
+        else if (line[0] == 'T')
+            translate(line);
+        else if (line[0] == 'P')
+            store(line);
+        else
+            operate(line);
+    }
+}
+
+int main(int count, char **arguments)
+{
+    FILE *file = open_vectors(count, arguments, 1, "vectors_sequences sequences.txt");
+    for (char *line = next_line(file); line != NULL; line = next_line(file))
+        take_line(line);
+    fclose(file);
+    printf("sequences: %lu whole, %lu up to their first flag above 1f (request W-205); %lu lines skipped after one\n", whole,
+           cut, skipped);
+    printf("sequences: %lu hits, %lu misses, %lu faults, %lu operations, %lu stores\n", hits, misses, faults, operations,
+           stores);
+    printf("sequences: %lu failed\n", failed);
+    return failed != 0 || whole == 0 || hits == 0;
+}
