@@ -53,8 +53,14 @@ unfolding droppedIn
 twice-dropped p q b b₁ b₂ h e₁ e₂ =
     e₂ ∙ ap (λ (s : Image). encode (dropped q s)) (ap decode e₁ ∙ says-dropped p b h) ∙ ap encode (twice p q (decode b))
 
+-- two tests that say the same of each slot's own tag drop the same
+pub dropped-as : (p q : ℕ → ℕ → Bool) (b : List ℕ) → ((i : ℕ) → p i (decode b .slots i .tag) ≡ q i (decode b .slots i .tag))
+    → droppedIn p b ≡ droppedIn q b
+unfolding droppedIn
+dropped-as p q b h = ap (λ (f : ℕ → Slot). encode (withSlots (decode b) f)) (fun-ext (λ i. ap (λ (c : Bool). cond c none (decode b .slots i)) (h i)))
+
 pub dropped-alike : (p q : ℕ → ℕ → Bool) (b : List ℕ) → ((i t : ℕ) → p i t ≡ q i t) → droppedIn p b ≡ droppedIn q b
-dropped-alike p q b h = ap (λ (r : ℕ → ℕ → Bool). droppedIn r b) (fun-ext (λ i. fun-ext (h i)))
+dropped-alike p q b h = dropped-as p q b (λ i. h i (decode b .slots i .tag))
 
 -- ---- the slots from l on and before h, by a test of the tag
 abbrev within : ℕ → ℕ → ℕ → Bool

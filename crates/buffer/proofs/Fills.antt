@@ -11,21 +11,12 @@ use lib.Seq.{length-take-le, take-at, drop-at, take-take, take-add, drop-drop, d
 use lib.Pow.{pow-pos, pow-add, split, shl-exact, shr-lt}
 use borrow.Author.Tests.{lt-ltb, le-ltb}
 use Rattle.rules.specs.Bits.{isOn, bytesOf, wordAt, wordPut}
-use Rattle.rules.specs.Sizes.{sizeAt, setOf}
 use Rattle.rules.specs.Image.{Image, victim, movedOn, encode, decode}
-use Rattle.rules.specs.Buffer.{hit, miss, first, stored, withVictims, slotFor, filled}
-use Rattle.rules.specs.declared.Rights.{Rights}
-use Rattle.rules.specs.declared.Found.the-variants.{Page}
+use Rattle.rules.specs.Buffer.{hit, miss, first, stored, withVictims}
 use Rattle.rules.proofs.WordLaws.{bytes-length}
 use Rattle.rules.proofs.ImageLaws.{Sound, victims-bytes, store-bytes, decode-encode}
 use Rattle.rules.proofs.PlaceLaws.{IsImage, tag-at, victims-at, is-encoded, sound-victims}
 use Rattle.buffer.specs.Fill.{slotsOf, isFree, IsLowest, slotPut, filledAt}
-
--- a walk's page goes to its own set
-pub filled-is : (s : Image) (a base level : ℕ) (r : Rights) (global dirty : Bool) (n : ℕ)
-    → filled s a (Page base level r global dirty n)
-    ≡ filledAt (setOf (sizeAt level) a) (slotFor s a (sizeAt level) base r global dirty .tag) (slotFor s a (sizeAt level) base r global dirty .datum) s
-filled-is s a base level r global dirty n = refl
 
 -- ---- free_way: the ways below this one are in use
 pub record Passed (s : Image) (set way : ℕ) : Type 0 where

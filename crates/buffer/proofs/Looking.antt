@@ -1,58 +1,38 @@
 -- What looking up finds, from what each function's calls tell it: a slot by its masked tag, the first of a set, of a size, of all, and the first match.
 -- A match is a page held that is one's own, so the first slot that holds the page is the first match wherever it is one's own (own-first).
-use Prim.Native.Nat.{ℕ, zero, suc, _+_, _-_, _*_, _/_, _%_, _^_, _≤_, _<_}
+use Prim.Native.Nat.{ℕ, zero, suc, _+_, _*_, _/_, _%_, _≤_, _<_}
 use mathlib.Core.Path.{_≡_, refl, ap, ap₂, sym, _∙_, subst}
-use mathlib.Core.Bool.{Bool, true, false, cond, _&&_, _||_}
+use mathlib.Core.Bool.{Bool, true, false, cond, _&&_, _||_, and-comm}
 use mathlib.Core.List.{List, [], _∷_, _++_}
 use native.Mathlib.Omega.{arith}
-use native.Mathlib.Nat.{mod-lt, add-zero}
+use native.Mathlib.Nat.{add-zero}
 use native.Mathlib.Numerals.{add-one, add-four, add-eight}
 use lib.Dec.{eqb}
 use lib.ListN.{length, getD, drop}
 use lib.Seq.{drop-cons}
-use lib.Pow.{split, pow-pos}
-use lib.Bits.{bitAnd, and-block, and-mask}
-use borrow.Author.Tests.{eqb-true, eqb-false, eq-eqb, ne-eqb}
+use lib.Bits.{bitAnd, bitOr}
+use borrow.Author.Tests.{eq-eqb}
 use Rattle.rules.specs.Bits.{wordAt}
-use Rattle.rules.specs.Sizes.{small, middle, large, Is, is-small, is-middle, is-large, sizeAt, pageNumber, setOf, ways}
-use Rattle.rules.specs.Image.{decode, pcid, pageIn}
-use Rattle.rules.specs.Buffer.{matches, Hit, hit, miss, first, allWays, find}
+use Rattle.rules.specs.Sizes.{small, middle, large, Is, sizeAt, pageNumber, setOf, ways}
+use Rattle.rules.specs.Image.{decode, pcid, isHeld, pageIn}
+use Rattle.rules.specs.Buffer.{contains, matches, Hit, hit, miss, first, allWays, find}
 use Rattle.rules.specs.declared.Size.{Size}
 use Rattle.rules.proofs.PlaceLaws.{tag-at}
 use Rattle.rules.proofs.SizeLaws.{size-at, set-lt, slot-size}
 use Rattle.buffer.specs.declared.look.Place.{Place}
 use Rattle.buffer.specs.declared.look.Place.the-variants.{At, Nowhere}
-use Rattle.buffer.specs.Look.{hitOf, Right, Looks, tagIn, isPage, isOf, holds, FirstHeld}
+use Rattle.buffer.specs.Look.{hitOf, Right, Looks, tagIn, isPage, isOf, holds, anyHeld, FirstHeld}
+use Rattle.buffer.specs.Fill.{slotsOf}
+use Rattle.buffer.specs.Drops.{isMasked}
+use Rattle.buffer.proofs.TagTests.{test-held, test-page}
+use Rattle.buffer.proofs.FourTags.{any-odd}
 
 -- ---- what is tested of a tag
-masked : (t : ℕ) → bitAnd t 0x3FFFFFFFFC001 ≡ t / 2 ^ 14 % 2 ^ 36 * 2 ^ 14 + t % 2
-masked t =
-    ap (λ (x : ℕ). bitAnd x 0x3FFFFFFFFC001) (sym (split t 14))
-    ∙ and-block 14 (t / 2 ^ 14) (2 ^ 36 - 1) (t % 2 ^ 14) 1 (mod-lt t (pow-pos 14)) (omega arith)
-    ∙ ap₂ (λ (x y : ℕ). x * 2 ^ 14 + y) (and-mask (t / 2 ^ 14) 36) (and-mask (t % 2 ^ 14) 1 ∙ low t)
-  where
-    low : (t : ℕ) → t % 2 ^ 14 % 2 ^ 1 ≡ t % 2
-    low t = omega arith
-
--- one test of two fields is two tests
-both : (p r n : ℕ) → r < 2 → eqb (p * 2 ^ 14 + r) (n * 0x4000 + 1) ≡ eqb r 1 && eqb p n
-both p r n h = go (eqb r 1) (eqb p n) refl refl
-  where
-    go : (x y : Bool) → eqb r 1 ≡ x → eqb p n ≡ y → eqb (p * 2 ^ 14 + r) (n * 0x4000 + 1) ≡ x && y
-    go true true e f =
-        let a : r ≡ 1 = eqb-true r 1 e in
-        let b : p ≡ n = eqb-true p n f in
-        eq-eqb (p * 2 ^ 14 + r) (n * 0x4000 + 1) (omega arith)
-    go true false e f = ne-eqb (p * 2 ^ 14 + r) (n * 0x4000 + 1) (λ (q : p * 2 ^ 14 + r ≡ n * 0x4000 + 1). eqb-false p n f (omega arith))
-    go false y e f = ne-eqb (p * 2 ^ 14 + r) (n * 0x4000 + 1) (λ (q : p * 2 ^ 14 + r ≡ n * 0x4000 + 1). eqb-false r 1 e (omega arith))
-
-zeroth : (t : ℕ) → t % 2 ≡ t / 2 ^ 0 % 2
-zeroth t = omega arith
-
 pub page-test : (b : List ℕ) (at n t : ℕ) → t ≡ wordAt b at → eqb (bitAnd t 0x3FFFFFFFFC001) (n * 0x4000 + 1) ≡ isPage n (wordAt b at)
 page-test b at n t e =
-    let u : eqb (bitAnd t 0x3FFFFFFFFC001) (n * 0x4000 + 1) ≡ eqb (t % 2) 1 && eqb (pageIn t) n = rw (masked t) (both (pageIn t) (t % 2) n (omega arith)) in
-    rw (← e) (u ∙ ap (λ (x : ℕ). eqb x 1 && eqb (pageIn t) n) (zeroth t))
+    rw (← e)
+    (test-page 1 t (omega arith) n 1 (omega arith)
+    ∙ and-comm (eqb (pageIn t) n) (isMasked 1 1 t) ∙ ap (λ (x : Bool). x && eqb (pageIn t) n) (test-held t))
 
 pub own-test : (b : List ℕ) (i p t : ℕ) → i < 100 → t ≡ wordAt b (32 + i * 16) → (eqb (t / 2 % 2) 1 || eqb (t / 4 % 4096) p) ≡ isOf p (tagIn b i)
 own-test b i p t h e = rw (tag-at b i h, ← e)
@@ -72,6 +52,12 @@ module _ (b : List ℕ) (a : ℕ) (z : Size) (n s : ℕ) (is : Is z) (en : n ≡
   slot-right i h =
       let g : i / 4 ≡ setOf z a = h ∙ own-set in
       (omega (arith, set-lt z a is), ap (λ (y : Size). y .length) (sym (slot-size z a i is g)))
+
+  pub any-test : (n₀ n₁ n₂ n₃ : ℕ) → n₀ ≡ wordAt b (32 + s * 64) → n₁ ≡ wordAt b (32 + s * 64 + 16)
+      → n₂ ≡ wordAt b (32 + s * 64 + 32) → n₃ ≡ wordAt b (32 + s * 64 + 48)
+      → eqb (bitOr (bitOr (bitOr n₀ n₁) n₂) n₃ % 2) 1 ≡ anyHeld b (ways z a)
+  any-test n₀ n₁ n₂ n₃ e₀ e₁ e₂ e₃ =
+      any-odd b s n₀ n₁ n₂ n₃ (rw own-set (set-lt z a is)) e₀ e₁ e₂ e₃ ∙ ap (λ (y : ℕ). anyHeld b (slotsOf y)) own-set
 
   of-set : (r : Place) → hitOf r ≡ first (holds b a) (4 * s ∷ (4 * s + 1) ∷ (4 * s + 2) ∷ (4 * s + 3) ∷ []) → Right r → FirstHeld b a (ways z a) r
   of-set r h g = subst (λ (y : ℕ). FirstHeld b a (4 * y ∷ (4 * y + 1) ∷ (4 * y + 2) ∷ (4 * y + 3) ∷ []) r) own-set (record { held = h; right = g })
@@ -108,6 +94,19 @@ module _ (b : List ℕ) (a : ℕ) (z : Size) (n s : ℕ) (is : Is z) (en : n ≡
           pub no-way : x₃ ≡ false → FirstHeld b a (ways z a) Nowhere
           no-way f₃ = of-set _ (rw (slot-0 false f₀, slot-1 false f₁, slot-2 false f₂, slot-3 false f₃)) tt
 
+-- ---- where no slot is in use, none holds the page
+none-holds : (b : List ℕ) (a : ℕ) (is : List ℕ) → anyHeld b is ≡ false → miss ≡ first (holds b a) is
+none-holds b a [] e = refl
+none-holds b a (i ∷ is) e = go (isHeld (tagIn b i)) e (none-holds b a is)
+  where
+    go : (t : Bool) → (t || anyHeld b is) ≡ false → (anyHeld b is ≡ false → miss ≡ first (holds b a) is)
+        → miss ≡ cond (t && contains a i (tagIn b i)) (hit i) (first (holds b a) is)
+    go true f k = cc
+    go false f k = k f
+
+pub none-used : (b : List ℕ) (a : ℕ) (z : Size) (x : Bool) → x ≡ anyHeld b (ways z a) → x ≡ false → FirstHeld b a (ways z a) Nowhere
+none-used b a z x e f = record { held = none-holds b a (ways z a) (sym e ∙ f); right = tt }
+
 -- ---- one list of slots after the other, and so the three sizes
 abbrev orElse : Hit → Hit → Hit
 orElse (hit i) o = hit i
@@ -132,15 +131,6 @@ module _ (b : List ℕ) (a : ℕ) (xs ys : List ℕ) (r : Place) (h : FirstHeld 
   later q e g =
       let m : miss ≡ first (holds b a) xs = sym (ap hitOf e) ∙ h .held in
       record { held = g .held ∙ ap (λ (o : Hit). orElse o (first (holds b a) ys)) m ∙ sym (first-append (holds b a) xs ys); right = g .right }
-
-pub is-small-size : (z : Size) → z ≡ small → Is z
-is-small-size z e = subst Is (sym e) is-small
-
-pub is-middle-size : (z : Size) → z ≡ middle → Is z
-is-middle-size z e = subst Is (sym e) is-middle
-
-pub is-large-size : (z : Size) → z ≡ large → Is z
-is-large-size z e = subst Is (sym e) is-large
 
 of-size : (b : List ℕ) (a : ℕ) (r : Place) (y z : Size) → y ≡ z → FirstHeld b a (ways y a) r → FirstHeld b a (ways z a) r
 of-size b a r y z e h = subst (λ (x : Size). FirstHeld b a (ways x a) r) e h

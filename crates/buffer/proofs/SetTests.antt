@@ -5,7 +5,7 @@ use mathlib.Core.Bool.{Bool, true, false, _&&_, _||_, or-false}
 use native.Mathlib.Omega.{arith}
 use native.Mathlib.Decide.{decLt}
 use lib.Dec.{leb, ltb, eqb}
-use borrow.Author.Tests.{lt-ltb, le-ltb, le-leb, lt-leb, ne-eqb, eqb-true, eqb-false}
+use borrow.Author.Tests.{lt-ltb, le-ltb, le-leb, lt-leb, eq-eqb, ne-eqb, eqb-true, eqb-false}
 use Rattle.rules.specs.Sizes.{small, middle, large, setOf}
 use Rattle.buffer.specs.Drops.{maskedOf, maskedAt}
 
@@ -22,12 +22,23 @@ in-set set i = go (eqb (i / 4) set) refl
         rw (le-leb (set * 4) i (omega arith), lt-ltb i (set * 4 + 4) (omega arith))
     go false e = out (eqb-false (i / 4) set e) (decLt i (set * 4))
 
-pub any-size : (a mask want i t : ℕ)
-    → (maskedOf small a mask want i t || maskedOf middle a mask want i t || maskedOf large a mask want i t) ≡ maskedAt a mask want i t
-any-size a mask want i t = go (decLt (i / 4) 16) (decLt (i / 4) 24)
+-- a set's slots, after those of the sets before it
+pub one-set-more : (set i : ℕ) → ((leb 0 i && ltb i (set * 4)) || eqb (i / 4) set) ≡ (leb 0 i && ltb i ((set + 1) * 4))
+one-set-more set i = rw (le-leb 0 i (omega arith)) (go (decLt (i / 4) set) (decLt set (i / 4)))
+  where
+    go : Dec (i / 4 < set) → Dec (set < i / 4) → (ltb i (set * 4) || eqb (i / 4) set) ≡ ltb i ((set + 1) * 4)
+    go (yes g) k = rw (lt-ltb i (set * 4) (omega arith), lt-ltb i ((set + 1) * 4) (omega arith))
+    go (no g) (yes k) = rw (le-ltb i (set * 4) (omega arith), le-ltb i ((set + 1) * 4) (omega arith), ne-eqb (i / 4) set (omega arith))
+    go (no g) (no k) = rw (le-ltb i (set * 4) (omega arith), lt-ltb i ((set + 1) * 4) (omega arith), eq-eqb (i / 4) set (omega arith))
+
+pub any-size : (a mask want own whose i t : ℕ)
+    → (maskedOf small a mask want own whose i t || maskedOf middle a mask want own whose i t || maskedOf large a mask want own whose i t)
+    ≡ maskedAt a mask want own whose i t
+any-size a mask want own whose i t = go (decLt (i / 4) 16) (decLt (i / 4) 24)
   where
     go : Dec (i / 4 < 16) → Dec (i / 4 < 24)
-        → (maskedOf small a mask want i t || maskedOf middle a mask want i t || maskedOf large a mask want i t) ≡ maskedAt a mask want i t
+        → (maskedOf small a mask want own whose i t || maskedOf middle a mask want own whose i t || maskedOf large a mask want own whose i t)
+        ≡ maskedAt a mask want own whose i t
     go (yes g) k =
         rw (lt-ltb (i / 4) 16 g, ne-eqb (i / 4) (setOf middle a) (omega arith), ne-eqb (i / 4) (setOf large a) (omega arith))
         (or-false _ ∙ or-false _)

@@ -21,6 +21,16 @@ set-small z n is-small = omega arith
 set-small z n is-middle = omega arith
 set-small z n is-large = omega arith
 
+-- what `size` of each type gives is one of the three
+pub is-4k : (z : Size) → z ≡ small → Is z
+is-4k z e = rw e is-small
+
+pub is-2m : (z : Size) → z ≡ middle → Is z
+is-2m z e = rw e is-middle
+
+pub is-1g : (z : Size) → z ≡ large → Is z
+is-1g z e = rw e is-large
+
 -- the size at a level
 module _ (l : ℕ) (z : Size) where
   pub at-one : l ≡ 1 → z ≡ small → z ≡ sizeAt l

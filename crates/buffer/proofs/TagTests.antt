@@ -2,7 +2,7 @@
 -- A number under a mask of neighbouring bits is those bits where they stand, and two such numbers are equal if each part of them is.
 use Prim.Native.Nat.{ℕ, _+_, _-_, _*_, _/_, _%_, _^_, _≤_, _<_}
 use mathlib.Core.Path.{_≡_, refl, ap, sym, _∙_}
-use mathlib.Core.Bool.{Bool, true, false, _&&_, not}
+use mathlib.Core.Bool.{Bool, true, false, _&&_, not, and-true, or-true}
 use native.Mathlib.Omega.{arith}
 use native.Mathlib.Nat.{mod-lt, zero-mul, zero-add}
 use lib.Dec.{eqb}
@@ -11,7 +11,7 @@ use lib.Bits.{bitAnd, and-zero-r, and-mask, and-high, and-block, and-le-r}
 use borrow.Author.Tests.{eq-eqb, ne-eqb, eqb-true, eqb-false}
 use Rattle.rules.specs.Image.{isHeld, isGlobal, pcidIn, pageIn}
 use Rattle.rules.specs.Buffer.{others}
-use Rattle.buffer.specs.Drops.{isMasked}
+use Rattle.buffer.specs.Drops.{isMasked, isAsked}
 
 -- ---- an equation that holds with another, or with another two
 same-test : (x y u v : ℕ) → (u ≡ v → x ≡ y) → (x ≡ y → u ≡ v) → eqb x y ≡ eqb u v
@@ -39,7 +39,7 @@ off x h = go (eqb x 1) refl
 not-global : (t : ℕ) → not (isGlobal t) ≡ eqb (t / 2 ^ 1 % 2) 0
 not-global t = off (t / 2 ^ 1 % 2) (omega arith)
 
--- ---- the four masks
+-- ---- the masks
 pub test-nothing : (t : ℕ) → isMasked 0 0 t ≡ true
 test-nothing t = rw (and-zero-r t)
 
@@ -57,16 +57,18 @@ test-others p t =
         both-tests ((x * 2 + y) * 2 ^ 1) (p * 4) x p y 0 (λ h k. omega arith) (λ h. omega arith)
         (λ h. let e : x ≡ p = omega arith in omega arith)
 
-pub test-everybody : (t : ℕ) → isMasked 3 3 t ≡ (isHeld t && isGlobal t)
-test-everybody t =
-    let d : t % 2 ^ 2 ≡ t / 2 ^ 1 % 2 * 2 + t / 2 ^ 0 % 2 = omega (arith, mod-pow-add t 1 1) in
-    rw (and-mask t 2) (both-tests (t % 2 ^ 2) 3 (t / 2 ^ 0 % 2) 1 (t / 2 ^ 1 % 2) 1 (λ h g. omega arith) (λ h. omega arith) (λ h. omega arith))
+pub test-held : (t : ℕ) → isMasked 1 1 t ≡ isHeld t
+test-held t = rw (and-mask t 1) (same-test (t % 2 ^ 1) 1 (t / 2 ^ 0 % 2) 1 (λ h. omega arith) (λ h. omega arith))
 
-pub test-own : (p t : ℕ) → isMasked 0x3FFF (p * 4 + 1) t ≡ (isHeld t && others p t)
-test-own p t =
-    let d : t % 2 ^ 14 ≡ t / 2 ^ 1 % 2 ^ 13 * 2 ^ 1 + t / 2 ^ 0 % 2 = omega (arith, mod-pow-add t 13 1) in
-    rw (← test-others p t, and-mask t 14, and-high t 13 1)
-    (both-tests (t % 2 ^ 14) (p * 4 + 1) (t / 2 ^ 0 % 2) 1 (t / 2 ^ 1 % 2 ^ 13 * 2 ^ 1) (p * 4) (λ h g. omega arith) (λ h. omega arith) (λ h. omega arith))
+pub test-global : (t : ℕ) → isMasked 2 2 t ≡ isGlobal t
+test-global t = rw (and-high t 1 1) (same-test (t / 2 ^ 1 % 2 ^ 1 * 2 ^ 1) 2 (t / 2 ^ 1 % 2) 1 (λ h. omega arith) (λ h. omega arith))
+
+pub test-space : (p t : ℕ) → isMasked 0x3FFC (p * 4) t ≡ eqb (pcidIn t) p
+test-space p t = rw (and-high t 12 2) (same-test (pcidIn t * 2 ^ 2) (p * 4) (pcidIn t) p (λ h. omega arith) (λ h. omega arith))
+
+-- ---- the second compare
+pub asks-nothing : (mask want t : ℕ) → isAsked mask want 0 0 t ≡ isMasked mask want t
+asks-nothing mask want t = rw (test-nothing t, or-true (isGlobal t)) (and-true (isMasked mask want t))
 
 -- ---- a page number, and a mask below it
 module _ (mask t : ℕ) (h : mask < 2 ^ 14) where

@@ -17,12 +17,12 @@ abbrev pub isFree : Image → ℕ → Bool
 isFree s i = not (isHeld (s .slots i .tag))
 
 -- a way's number, 0 to 3, as its slot; 4 is none
-abbrev pub hitOf : ℕ → ℕ → Hit
-hitOf set way = cond (ltb way 4) (hit (4 * set + way)) miss
+abbrev pub wayHit : ℕ → ℕ → Hit
+wayHit set way = cond (ltb way 4) (hit (4 * set + way)) miss
 
 -- way is the lowest free way of a set, or 4
 pub record IsLowest (s : Image) (set way : ℕ) : Type 0 where
-  pub right : first (isFree s) (slotsOf set) ≡ hitOf set way
+  pub right : first (isFree s) (slotsOf set) ≡ wayHit set way
   pub low : way ≤ 4
 
 -- a slot's two words are now in a set's 64 bytes

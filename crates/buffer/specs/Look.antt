@@ -1,8 +1,8 @@
 -- Looking up in the image's bytes: where a page is held, and what the code finds on the way.
 use Prim.Native.Nat.{ℕ, _<_}
 use mathlib.Core.Path.{_≡_}
-use mathlib.Core.Bool.{Bool, _&&_, _||_}
-use mathlib.Core.List.{List}
+use mathlib.Core.Bool.{Bool, false, _&&_, _||_}
+use mathlib.Core.List.{List, [], _∷_}
 use lib.Dec.{eqb}
 use Rattle.rules.specs.Sizes.{sizeOf}
 use Rattle.rules.specs.Image.{decode, isHeld, isGlobal, pcidIn, pageIn}
@@ -44,3 +44,8 @@ holds b a i = isHeld (tagIn b i) && contains a i (tagIn b i)
 pub record FirstHeld (b : List ℕ) (a : ℕ) (is : List ℕ) (r : Place) : Type 0 where
   pub held : hitOf r ≡ first (holds b a) is
   pub right : Right r
+
+-- one of some slots is in use
+abbrev pub anyHeld : List ℕ → List ℕ → Bool
+anyHeld b [] = false
+anyHeld b (i ∷ is) = isHeld (tagIn b i) || anyHeld b is

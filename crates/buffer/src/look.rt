@@ -7,7 +7,7 @@ ghost use Rattle.rules.specs.Bits.{wordAt};
 ghost use Rattle.rules.specs.Sizes.{Is, ways};
 ghost use Rattle.rules.specs.Image.{decode, pcid as pcidOf};
 ghost use Rattle.rules.specs.Buffer.{allWays};
-ghost use Rattle.buffer.specs.Look.{Looks, tagIn, isPage, isOf, FirstHeld};
+ghost use Rattle.buffer.specs.Look.{Looks, tagIn, isPage, isOf, anyHeld, FirstHeld};
 use crate::size::Page1G;
 use crate::size::Page2M;
 use crate::size::Page4K;
@@ -59,6 +59,31 @@ fn held_of(image: &[u8], z: Size, a: u64) -> Place
     Place::Nowhere
 }
 
+// Whether one of the four ways of the address's set for a size is in use.
+fn any_in(image: &[u8], z: Size, a: u64) -> bool
+    requires { ⌜ (length (now image) ≡ 2048) × Is z ⌝ }
+    ensures { λ r. ⌜ r ≡ anyHeld (now (image .entry)) (ways z a) ⌝ }
+{
+    let number = crate::size::page_number(z, a);
+    let at = 32 + crate::size::set_of(z, number) as usize * 64;
+    let any = words::read_word(image, at)
+        | words::read_word(image, at + 16)
+        | words::read_word(image, at + 32)
+        | words::read_word(image, at + 48);
+    any % 2 == 1
+}
+
+// The same as `held_of`, for a size whose sets are often empty: then none of the ways is compared.
+fn held_large(image: &[u8], z: Size, a: u64) -> Place
+    requires { ⌜ (length (now image) ≡ 2048) × Is z ⌝ }
+    ensures { λ r. ⌜ FirstHeld (now (image .entry)) a (ways z a) r ⌝ }
+{
+    if any_in(image, z, a) {
+        return held_of(image, z, a);
+    }
+    Place::Nowhere
+}
+
 // The same of all sizes, small pages first.
 fn held(image: &[u8], a: u64) -> Place
     requires { ⌜ length (now image) ≡ 2048 ⌝ }
@@ -66,9 +91,9 @@ fn held(image: &[u8], a: u64) -> Place
 {
     match held_of(image, Page4K::size(), a) {
         Place::At(i, l) => Place::At(i, l),
-        Place::Nowhere => match held_of(image, Page2M::size(), a) {
+        Place::Nowhere => match held_large(image, Page2M::size(), a) {
             Place::At(i, l) => Place::At(i, l),
-            Place::Nowhere => held_of(image, Page1G::size(), a),
+            Place::Nowhere => held_large(image, Page1G::size(), a),
         },
     }
 }

@@ -1,5 +1,6 @@
 -- One size after another is every size: a slot has one size.
-use Rattle.buffer.proofs.DropWays.{at-dropped, is-4k, is-2m, is-1g}
+use Rattle.buffer.proofs.Sizes.{is-4k, is-2m, is-1g}
+use Rattle.buffer.proofs.DropWays.{at-dropped}
 use Rattle.buffer.proofs.DropLaws.{image-dropped}
 use borrow.Author.Needs.{needs}
 use Rattle.buffer.proofs.drops.drop_at.Statement.{statement}

@@ -6,10 +6,10 @@ use Rattle.buffer.proofs.drops.drop_from.Statement.{statement}
 use Rattle.buffer.proofs.drops.drop_from.Tie as tie
 
 abbrev Inv-loop : tie.InvT-loop
-Inv-loop image₀ first end mask want i₀ image i = Swept image₀ image first end i mask want
+Inv-loop image₀ first end mask want own whose i₀ image i = Swept image₀ image first end i mask want own whose
 
 abbrev μ-loop : tie.MeasureT-loop
-μ-loop image₀ first end mask want i₀ image i = end - i
+μ-loop image₀ first end mask want own whose i₀ image i = end - i
 
 loop-holds : tie.Need-loop-holds Inv-loop μ-loop
 loop-holds c = search (swept-none, needs)

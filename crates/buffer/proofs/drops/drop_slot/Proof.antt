@@ -1,5 +1,5 @@
--- Two words of zero are a slot's sixteen bytes; a slot that is not wanted stays.
-use Rattle.buffer.proofs.DropWays.{slot-dropped, slot-kept}
+-- Two words of zero are a slot's sixteen bytes; a slot that is not wanted, or is another's, stays.
+use Rattle.buffer.proofs.DropWays.{slot-dropped, slot-of-another, slot-unwanted}
 use borrow.Author.Needs.{needs}
 use Rattle.buffer.proofs.drops.drop_slot.Statement.{statement}
 use Rattle.buffer.proofs.drops.drop_slot.Tie as tie
@@ -23,7 +23,13 @@ same-length-2 : tie.Need-same-length-2
 same-length-2 c = search needs
 
 returns-2 : tie.Need-returns-2
-returns-2 c = search slot-kept
+returns-2 c = search slot-of-another
+
+same-length-3 : tie.Need-same-length-3
+same-length-3 c = search needs
+
+returns-3 : tie.Need-returns-3
+returns-3 c = search slot-unwanted
 
 pub drop-slot-spec : {M : Type 1} → statement M
 drop-slot-spec =
@@ -35,4 +41,6 @@ drop-slot-spec =
     same-length
     returns
     same-length-2
-    returns-2)
+    returns-2
+    same-length-3
+    returns-3)

@@ -1,5 +1,6 @@
 -- The first of the three sizes that has one; a size that `size` gives is one of them.
-use Rattle.buffer.proofs.Looking.{is-small-size, is-middle-size, is-large-size, held-small, held-middle, held-large}
+use Rattle.buffer.proofs.Sizes.{is-4k, is-2m, is-1g}
+use Rattle.buffer.proofs.Looking.{held-small, held-middle, held-large}
 use borrow.Author.Needs.{needs}
 use Rattle.buffer.proofs.look.held.Statement.{statement}
 use Rattle.buffer.proofs.look.held.Tie as tie
@@ -8,7 +9,7 @@ size-requires : tie.Need-size-requires
 size-requires c κs = search needs
 
 held-of-requires : tie.Need-held-of-requires
-held-of-requires c κs = (search needs, search (is-small-size, is-middle-size, is-large-size))
+held-of-requires c κs = (search needs, search (is-4k, is-2m, is-1g))
 
 enum-known-i : tie.Need-enum-known-i
 enum-known-i c = search needs
@@ -19,8 +20,8 @@ enum-told c = search needs
 size-requires-2 : tie.Need-size-requires-2
 size-requires-2 c κs = search needs
 
-held-of-requires-2 : tie.Need-held-of-requires-2
-held-of-requires-2 c κs = (search needs, search (is-small-size, is-middle-size, is-large-size))
+held-large-requires : tie.Need-held-large-requires
+held-large-requires c κs = (search needs, search (is-4k, is-2m, is-1g))
 
 enum-known-i-2 : tie.Need-enum-known-i-2
 enum-known-i-2 c = search needs
@@ -31,8 +32,8 @@ enum-told-2 c = search needs
 size-requires-3 : tie.Need-size-requires-3
 size-requires-3 c κs = search needs
 
-held-of-requires-3 : tie.Need-held-of-requires-3
-held-of-requires-3 c κs = (search needs, search (is-small-size, is-middle-size, is-large-size))
+held-large-requires-2 : tie.Need-held-large-requires-2
+held-large-requires-2 c κs = (search needs, search (is-4k, is-2m, is-1g))
 
 returns : tie.Need-returns
 returns c = search held-small
@@ -52,11 +53,11 @@ held-spec =
     enum-known-i
     enum-told
     size-requires-2
-    held-of-requires-2
+    held-large-requires
     enum-known-i-2
     enum-told-2
     size-requires-3
-    held-of-requires-3
+    held-large-requires-2
     returns
     returns-2
     returns-3)
