@@ -1,0 +1,157 @@
+-- The claims are not empty: short histories, computed. Each answer stands beside the one that the call would give without a buffer, so that it is seen
+-- where the two differ; the claims allow every one of them.
+-- The guest is a page, at 0, that serves as the table of every level, and a second such page, at 0x1000, for another root: an address's indexes say which
+-- words are read.
+use Prim.Native.Nat.{ℕ, _+_, _^_}
+use mathlib.Core.Path.{_≡_, refl}
+use mathlib.Core.Bool.{false}
+use mathlib.Core.List.{List, [], _∷_, _++_, map}
+use native.Mathlib.Omega.{arith}
+use lib.ListN.{replicate}
+use Rattle.rules.specs.Image.{encode, decode}
+use Rattle.rules.specs.Memory.{Memory}
+use Rattle.rules.specs.Refusals.{translate, invlpg, invpcid, writeCr3, writeMode}
+use Rattle.rules.specs.Calls.{call}
+use Rattle.rules.specs.declared.Answer.{Answer}
+use Rattle.rules.specs.declared.Answer.the-variants.{Address}
+use Rattle.rules.proofs.TrialGuest.{pageOf}
+use Rattle.sequences.specs.History.{History, begun, _then_with_, bytes, image}
+use Rattle.sequences.specs.Covers.{global, others, covered}
+use Rattle.sequences.specs.Spans.{OnlyTranslator, RootA, RootB}
+use Rattle.sequences.specs.Claims.{plain}
+
+-- word 0 of each table is the table itself; of the first, words 1, 2 and 3 are given
+abbrev guest : ℕ → ℕ → ℕ → Memory
+guest one two three = pageOf (0x0007 ∷ one ∷ two ∷ three ∷ []) ++ pageOf (0x1007 ∷ 0x7007 ∷ 0x7107 ∷ [])
+
+-- a page, a global page and a table; then the guest has changed all three: other pages, and a page of 2 MiB
+abbrev first : Memory
+first = guest 0x5007 0x6107 0x0007
+
+abbrev changed : Memory
+changed = guest 0x8007 0x9107 0xA00087
+
+-- paging on, with write protect, global pages and NXE; and with PCIDs besides
+abbrev ready : History
+ready = begun (replicate 2048 0) 40 refl then writeMode 23 with []
+
+abbrev spaces : History
+spaces = ready then writeMode 31 with [] then writeCr3 0x0001 with []
+
+-- ---- a case: a translate after a history, what it answers, and what it answers without a buffer
+record Case : Type 0 where
+  history : History
+  memory : Memory
+  kind : ℕ
+  address : ℕ
+  answer : Answer
+  plainly : Answer
+
+abbrev shows : History → Memory → ℕ → ℕ → Answer → Answer → Case
+shows h mem k a r p = record { history = h; memory = mem; kind = k; address = a; answer = r; plainly = p }
+
+abbrev got : Case → List Answer
+got c = call (bytes (c .history)) (c .memory) (translate (c .kind) (c .address)) .answer ∷ plain (image (c .history)) (c .memory) (c .kind) (c .address) .answer ∷ []
+
+abbrev wanted : Case → List Answer
+wanted c = c .answer ∷ c .plainly ∷ []
+
+-- what a translate leaves of guest memory
+abbrev left : History → Memory → ℕ → ℕ → Memory
+left h mem k a = call (bytes h) mem (translate k a) .memory
+
+-- ---- histories
+-- a page was read; a global page was read
+abbrev read : History
+read = ready then translate 0 0x1000 with first
+
+abbrev readGlobal : History → History
+readGlobal h = h then translate 0 0x2000 with first
+
+-- a page was read, and the next PCID is current
+abbrev other : History
+other = spaces then translate 0 0x1000 with first then writeCr3 (2 ^ 63 + 0x0002) with []
+
+-- a page was read and then written to, nobody else having written to memory
+abbrev written : History
+written = read then translate 1 0x1000 with left ready first 0 0x1000
+
+-- a page was read, and then the root of its PCID changed without a flush
+abbrev moved : History
+moved = spaces then translate 0 0x1000 with first then writeCr3 (2 ^ 63 + 0x1001) with []
+
+-- a page was read, another PCID ran under its own root, and the first is back
+abbrev returned : History
+returned = spaces then translate 0 0x1000 with first then writeCr3 (2 ^ 63 + 0x1002) with [] then writeCr3 (2 ^ 63 + 0x0001) with []
+
+-- a small page was read; a neighbour was read when both had become part of a page of 2 MiB
+abbrev nearby : History
+nearby = ready then translate 0 0x601000 with first then translate 0 0x605000 with changed
+
+abbrev cases : List Case
+cases =
+    -- the guest changed its table and did not invalidate: the answer is that of before. After INVLPG it is the new page
+    shows read changed 0 0x1000 (Address 0x5000 0x1000 0) (Address 0x8000 0x1000 4)
+    ∷ shows (read then invlpg 0x1FFF with []) changed 0 0x1000 (Address 0x8000 0x1000 4) (Address 0x8000 0x1000 4)
+    -- a global page stays through a CR3 write, and through INVPCID of its address; it answers under another PCID and another root
+    ∷ shows (readGlobal ready then writeCr3 0x0000 with []) changed 0 0x2000 (Address 0x6000 0x1000 0) (Address 0x9000 0x1000 4)
+    ∷ shows (readGlobal spaces then invpcid 0 1 0x2000 with []) changed 0 0x2000 (Address 0x6000 0x1000 0) (Address 0x9000 0x1000 4)
+    ∷ shows (readGlobal spaces then writeCr3 0x1002 with []) first 0 0x2000 (Address 0x6000 0x1000 0) (Address 0x7000 0x1000 4)
+    -- another PCID walks; the first comes back without a flush and finds its page
+    ∷ shows other changed 0 0x1000 (Address 0x8000 0x1000 4) (Address 0x8000 0x1000 4)
+    ∷ shows (other then translate 0 0x1000 with changed then writeCr3 (2 ^ 63 + 0x0001) with []) changed 0 0x1000 (Address 0x5000 0x1000 0) (Address 0x8000 0x1000 4)
+    -- a write to a clean page walks once more, and from then on is answered
+    ∷ shows read (left ready first 0 0x1000) 1 0x1000 (Address 0x5000 0x1000 4) (Address 0x5000 0x1000 4)
+    ∷ shows written (left read (left ready first 0 0x1000) 1 0x1000) 1 0x1000 (Address 0x5000 0x1000 0) (Address 0x5000 0x1000 4)
+    -- the root changed without a flush: only the translator wrote to memory, and yet the answer is not that of the walk
+    ∷ shows moved (left spaces first 0 0x1000) 0 0x1000 (Address 0x5000 0x1000 0) (Address 0x7000 0x1000 4)
+    -- the root of another PCID does not matter
+    ∷ shows returned (left spaces first 0 0x1000) 0 0x1000 (Address 0x5000 0x1000 0) (Address 0x5000 0x1000 4)
+    -- INVLPG of the neighbour drops the page of 2 MiB that holds both, and not the small page of before
+    ∷ shows (nearby then invlpg 0x605000 with []) changed 0 0x601000 (Address 0x5000 0x1000 0) (Address 0xA01000 0x200000 3)
+    ∷ []
+
+pub all-shown : map got cases ≡ map wanted cases
+unfolding bytes encode decode
+all-shown = refl
+
+-- ---- what does not cover: a CR3 write and INVPCID type 0 a global slot, INVLPG of a neighbour an address of the same 2 MiB
+pub not-covered : (covered global 0x2000 (readGlobal ready) [] (writeCr3 0x0000) ≡ false)
+    × (covered global 0x2000 (readGlobal spaces) [] (invpcid 0 1 0x2000) ≡ false)
+    × (covered (others 0) 0x601000 nearby [] (invlpg 0x605000) ≡ false)
+unfolding bytes encode decode
+not-covered = (refl, refl, refl)
+
+-- ---- the root condition: the write that is answered stands under (a), since the last operation that covers everything is the mode write; the PCID that is
+-- back stands under (b)
+pub under-a : RootA written (left read (left ready first 0 0x1000) 1 0x1000) 0x1000
+unfolding bytes encode decode
+under-a =
+    record {
+      root-global = (refl, (refl, (refl, tt)));
+      root-others = (refl, (refl, (refl, tt)));
+      memory-global = (refl, (refl, tt));
+      memory-others = (refl, (refl, tt));
+    }
+
+pub under-b : RootB returned (left spaces first 0 0x1000) 0x1000
+unfolding bytes encode decode
+under-b =
+    record {
+      no-global = (refl, (refl, (refl, (refl, (refl, tt)))));
+      root-others = (λ e. refl, (λ e. let z : _≡_ {A = ℕ} 2 1 = e in absurd (omega arith), (λ e. refl, (λ e. refl, tt))));
+      memory-others = (refl, tt);
+    }
+
+-- where the PCID's own root changed, only the translator wrote to memory, and yet neither (a) nor (b) holds, whatever memory is given
+pub only-root : OnlyTranslator (covered (others 1) 0x1000) moved (left spaces first 0 0x1000)
+unfolding bytes encode decode
+only-root = (refl, tt)
+
+pub not-a : (mem : Memory) → RootA moved mem 0x1000 → ⊥
+unfolding bytes encode decode
+not-a mem c = let z : _≡_ {A = ℕ} 0x0000 0x1000 = c .root-others .1 .0 in omega arith
+
+pub not-b : (mem : Memory) → RootB moved mem 0x1000 → ⊥
+unfolding bytes encode decode
+not-b mem c = let z : _≡_ {A = ℕ} 0x0000 0x1000 = c .root-others .1 .0 refl in omega arith

@@ -1,0 +1,9 @@
+pub mod Ways
+pub mod Images
+pub mod Walks
+pub mod Fates
+pub mod Origins
+pub mod Answers
+pub mod Spans
+pub mod Equality
+pub mod Examples

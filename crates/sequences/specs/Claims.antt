@@ -1,0 +1,149 @@
+-- Demand 3: what is claimed. Each claim is a type; proofs/ has one proof of each, by the claim's name with a small first letter.
+use Prim.Native.Nat.{ℕ, suc, zero}
+use mathlib.Core.Path.{_≡_}
+use mathlib.Core.Logic.{_⊎_}
+use mathlib.Core.Bool.{Bool, true, false, cond, _&&_, not}
+use mathlib.Core.List.{List}
+use lib.Dec.{eqb}
+use Rattle.rules.specs.Image.{Image, decode, control, pcid, pg, isGlobal, none, pcidIn}
+use Rattle.rules.specs.Memory.{Memory}
+use Rattle.rules.specs.Walk.{Reach, Walked, reachIn, judged, walk}
+use Rattle.rules.specs.Buffer.{Hit, hit, miss, find, contains, matches}
+use Rattle.rules.specs.Answers.{answerOf}
+use Rattle.rules.specs.Refusals.{translate, Request, start, invlpg, invpcid, writeCr3, writeMode, canonical, refusal}
+use Rattle.rules.specs.Calls.{accessOf, Outcome, call}
+use Rattle.rules.specs.Bits.{isOn, AreBytes}
+use Rattle.rules.specs.declared.Access.{Access}
+use Rattle.rules.specs.declared.Cause.{Cause}
+use Rattle.rules.specs.declared.Answer.{Answer}
+use Rattle.rules.specs.declared.Answer.the-variants.{Address, PageFault, Refused, Done}
+use Rattle.sequences.specs.History.{History, _then_with_, bytes, image, Accepted}
+use Rattle.sequences.specs.Covers.{Who, global, others, pcidAfter, changes}
+use Rattle.sequences.specs.Spans.{Since, Uncovered, RootA, RootB, WordedA, WordedB, isTranslate}
+
+-- ---- a translate with no buffer: the walk, always. With paging off there is none
+pub record Plain : Type 0 where
+  pub answer : Answer
+  pub memory : Memory
+
+abbrev pub walkOnly : Bool → Image → Memory → Access → ℕ → Plain
+walkOnly true s mem k a =
+    let w : Walked = walk (control s) k a mem in
+    record { answer = answerOf (control s) k a (w .found); memory = w .memory }
+walkOnly false s mem k a = record { answer = Address a 0 0; memory = mem }
+
+abbrev pub plain : Image → Memory → ℕ → ℕ → Plain
+plain s mem k a = walkOnly (pg (s .flags)) s mem (accessOf k) a
+
+-- the same of another moment, as judged now: which page the walk reaches goes by the memory and the control state s of that moment; whether the access
+-- may use it goes by the write-protect flag of now, the only part of control that `judged` looks at
+abbrev pub judgedBy : Image → Bool → Image → Memory → Access → ℕ → Answer
+judgedBy now true s mem k a =
+    let w : Reach = reachIn mem (control s) a in
+    answerOf (control now) k a (judged (control now) k (w .end) (w .read))
+judgedBy now false s mem k a = Address a 0 0
+
+abbrev pub plainThen : Image → Image → Memory → ℕ → ℕ → Answer
+plainThen now s mem k a = judgedBy now (pg (s .flags)) s mem (accessOf k) a
+
+-- an answer but for the number of entries read
+abbrev pub butCount : Answer → Answer
+butCount (Address value size read) = Address value size 0
+butCount (PageFault cause level code read) = PageFault cause level code 0
+butCount (Refused n) = Refused n
+butCount Done = Done
+
+-- ---- answers: an address that is answered is the one that a walk gave, at a moment after which no call covers the slot that answers
+-- whose slot it is that is asked, the first that matches
+abbrev pub whoseHit : Image → Hit → Who
+whoseHit s (hit i) = cond (isGlobal (s .slots i .tag)) global (others (pcid s))
+whoseHit s miss = others (pcid s)
+
+abbrev pub whose : Image → ℕ → Who
+whose s a = whoseHit s (find s a)
+
+-- the moment of a slot that is not global ran under the PCID of now
+abbrev pub RanUnder : Who → Image → Image → Type 0
+RanUnder global now s = Unit {0}
+RanUnder (others p) now s = pcid s ≡ pcid now
+
+-- of a moment at h: its walk gives this address and size to the access of now
+pub record Gives (now : Image) (who : Who) (k a value size : ℕ) (h : History) (mem : Memory) (k₀ a₀ : ℕ) : Type 0 where
+  pub answer : butCount (plainThen now (image h) mem k a) ≡ Address value size 0
+  pub under : RanUnder who now (image h)
+
+abbrev pub Answers : Type 0
+Answers =
+    (h : History) (mem : Memory) (k a value size read : ℕ)
+    → call (bytes h) mem (translate k a) .answer ≡ Address value size read
+    → Since (Uncovered (whose (image h) a) a) (Gives (image h) (whose (image h) a) k a value size) (h then translate k a with mem)
+
+-- ---- what was read is of now: an answer with entries read, and any fault, are the walk's of this call, memory included. Of hand-made images too
+pub record IsPlain (s : Image) (mem : Memory) (k a : ℕ) (o : Outcome) : Type 0 where
+  pub answer : o .answer ≡ plain s mem k a .answer
+  pub memory : o .memory ≡ plain s mem k a .memory
+
+abbrev pub ReadNow : Type 0
+ReadNow =
+    (b : List ℕ) (mem : Memory) (k a value size read : ℕ)
+    → call b mem (translate k a) .answer ≡ Address value size (suc read)
+    → IsPlain (decode b) mem k a (call b mem (translate k a))
+
+abbrev pub Faults : Type 0
+Faults =
+    (b : List ℕ) (mem : Memory) (k a : ℕ) (cause : Cause) (level code read : ℕ)
+    → call b mem (translate k a) .answer ≡ PageFault cause level code read
+    → IsPlain (decode b) mem k a (call b mem (translate k a))
+
+-- ---- equality: under the root condition the answer but for the count, and all guest memory, are those without a buffer
+pub record IsPlainButCount (s : Image) (mem : Memory) (k a : ℕ) (o : Outcome) : Type 0 where
+  pub answer : butCount (o .answer) ≡ butCount (plain s mem k a .answer)
+  pub memory : o .memory ≡ plain s mem k a .memory
+
+abbrev pub Equality : Type 0
+Equality =
+    (h : History) (mem : Memory) (k a : ℕ)
+    → Accepted h mem (translate k a)
+    → RootA h mem a ⊎ RootB h mem a
+    → IsPlainButCount (image h) mem k a (call (bytes h) mem (translate k a))
+
+-- in the paper's words
+abbrev pub EqualityWorded : Type 0
+EqualityWorded =
+    (h : History) (mem : Memory) (k a : ℕ)
+    → Accepted h mem (translate k a)
+    → WordedA h mem a ⊎ WordedB h mem a
+    → IsPlainButCount (image h) mem k a (call (bytes h) mem (translate k a))
+
+-- ---- drops, slot by slot: an operation leaves two zero words if it names the slot, and else the slot as it was; victim numbers stay through all but start. Of
+-- hand-made images too: of any 2,048 bytes that the call accepts
+-- of space p, and not everybody's
+abbrev pub isPcids : ℕ → ℕ → Bool
+isPcids p t = eqb (pcidIn t) p && not (isGlobal t)
+
+-- the call, accepted at image s, names slot i with tag t
+abbrev pub names : Image → Request → ℕ → ℕ → Bool
+names s (start w) i t = true
+names s (translate k a) i t = false
+names s (invlpg a) i t = canonical (control s) a && matches (pcid s) a i t
+names s (invpcid zero p a) i t = contains a i t && isPcids p t
+names s (invpcid (suc zero) p a) i t = isPcids p t
+names s (invpcid (suc (suc zero)) p a) i t = true
+names s (invpcid (suc (suc (suc n))) p a) i t = not (isGlobal t)
+names s (writeCr3 v) i t = not (isOn 63 v) && isPcids (pcidAfter s v) t
+names s (writeMode v) i t = changes v (s .flags)
+
+abbrev pub victimsAfter : Image → Request → ℕ
+victimsAfter s (start w) = 0
+victimsAfter s (translate k a) = s .victims
+victimsAfter s (invlpg a) = s .victims
+victimsAfter s (invpcid t p a) = s .victims
+victimsAfter s (writeCr3 v) = s .victims
+victimsAfter s (writeMode v) = s .victims
+
+pub record Left (b : List ℕ) (mem : Memory) (q : Request) : Type 0 where
+  pub slots : (i : ℕ) → decode (call b mem q .image) .slots i ≡ cond (names (decode b) q i (decode b .slots i .tag)) none (decode b .slots i)
+  pub victims : decode (call b mem q .image) .victims ≡ victimsAfter (decode b) q
+
+abbrev pub Drops : Type 0
+Drops = (b : List ℕ) (mem : Memory) (q : Request) → AreBytes b → isTranslate q ≡ false → refusal b mem q ≡ 0 → Left b mem q

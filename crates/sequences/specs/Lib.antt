@@ -1,0 +1,4 @@
+pub mod History
+pub mod Covers
+pub mod Spans
+pub mod Claims
