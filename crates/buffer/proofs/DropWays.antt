@@ -8,7 +8,7 @@ use native.Mathlib.Numerals.{add-one}
 use lib.ListN.{length, take, drop, drop-of-length-le}
 use lib.Seq.{drop-drop}
 use lib.Dec.{leb, ltb, eqb}
-use lib.Bits.{bitAnd, bitOr, and-zero-l}
+use lib.Bits.{bitAnd, and-zero-l}
 use borrow.Author.Tests.{eq-eqb, ne-eqb, eqb-true}
 use Rattle.rules.specs.Bits.{wordAt, wordPut}
 use Rattle.rules.specs.Sizes.{small, middle, large, pageNumber, setOf}
@@ -16,7 +16,7 @@ use Rattle.rules.specs.Image.{isHeld, isGlobal, pcidIn, pageIn}
 use Rattle.rules.specs.Buffer.{contains, matches}
 use Rattle.rules.specs.declared.Size.{Size}
 use Rattle.rules.proofs.PlaceLaws.{IsImage}
-use Rattle.buffer.specs.Look.{tagIn}
+use Rattle.buffer.specs.Look.{tagIn, tagsIn}
 use Rattle.buffer.specs.Drops.{droppedIn, every, notGlobal, ofSpace, ofSpaceAt, isMasked, isAsked, masked, maskedFrom, maskedIn, maskedOf, maskedAt, slotLeft}
 use Rattle.buffer.proofs.DropLaws.{twice-dropped, dropped-as, dropped-alike, from-none, from-all, from-more}
 use Rattle.buffer.proofs.SetTests.{in-set, one-set-more, any-size}
@@ -77,14 +77,13 @@ set-dropped b b′ set mask want own whose e =
     (λ i t. ap (λ (c : Bool). c && isAsked mask want own whose t) (in-set set i))
 
 -- ---- drop_used: four tags of zero are the same under every mask
-pub unused-dropped : (b b′ : List ℕ) (set mask want n₀ n₁ n₂ n₃ : ℕ) → set < 25 → n₀ ≡ wordAt b (32 + set * 64) → n₁ ≡ wordAt b (32 + set * 64 + 16)
-    → n₂ ≡ wordAt b (32 + set * 64 + 32) → n₃ ≡ wordAt b (32 + set * 64 + 48) → bitOr (bitOr (bitOr n₀ n₁) n₂) n₃ ≡ 0
+pub unused-dropped : (b b′ : List ℕ) (set mask want n : ℕ) → n ≡ tagsIn b set → n ≡ 0
     → b′ ≡ droppedIn (maskedIn set 0 want 0 0) b → b′ ≡ droppedIn (maskedIn set mask want 0 0) b
-unused-dropped b b′ set mask want n₀ n₁ n₂ n₃ h e₀ e₁ e₂ e₃ z e =
+unused-dropped b b′ set mask want n h z e =
     e ∙ dropped-as (maskedIn set 0 want 0 0) (maskedIn set mask want 0 0) b (λ i. go i (eqb (i / 4) set) refl)
   where
     go : (i : ℕ) (c : Bool) → eqb (i / 4) set ≡ c → (c && isAsked 0 want 0 0 (tagIn b i)) ≡ (c && isAsked mask want 0 0 (tagIn b i))
-    go i true k = rw (all-zero b set n₀ n₁ n₂ n₃ h e₀ e₁ e₂ e₃ z i (eqb-true (i / 4) set k), and-zero-l mask)
+    go i true k = rw (all-zero b set (sym h ∙ z) i (eqb-true (i / 4) set k), and-zero-l mask)
     go i false k = refl
 
 -- ---- sweep: before each turn the sets before this one are done, which are the slots before its first

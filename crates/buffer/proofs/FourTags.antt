@@ -9,7 +9,7 @@ use lib.Bits.{bitOr, or-add-and, or-mod, and-le-l, and-le-r}
 use Rattle.rules.specs.Bits.{wordAt}
 use Rattle.rules.specs.Image.{isHeld}
 use Rattle.rules.proofs.PlaceLaws.{tag-at}
-use Rattle.buffer.specs.Look.{tagIn, anyHeld}
+use Rattle.buffer.specs.Look.{tagIn, tagsIn, anyHeld}
 use Rattle.buffer.specs.Fill.{slotsOf}
 
 -- ---- of two
@@ -35,42 +35,54 @@ odd-or a b = ap (λ (x : ℕ). eqb x 1) (or-mod a b 1) ∙ go (a % 2) (b % 2) (o
     go (suc (suc x)) y h g = absurd (omega arith)
 
 -- ---- of the four
-module _ (b : List ℕ) (s n₀ n₁ n₂ n₃ : ℕ) (h : s < 25) (e₀ : n₀ ≡ wordAt b (32 + s * 64)) (e₁ : n₁ ≡ wordAt b (32 + s * 64 + 16))
-    (e₂ : n₂ ≡ wordAt b (32 + s * 64 + 32)) (e₃ : n₃ ≡ wordAt b (32 + s * 64 + 48)) where
-  own-tag : (i at n : ℕ) → i / 4 ≡ s → at ≡ 32 + i * 16 → n ≡ wordAt b at → tagIn b i ≡ n
-  own-tag i at n g k e = rw (tag-at b i (omega arith), ← k) (sym e)
+module _ (b : List ℕ) (s : ℕ) where
+  abbrev t₀ : ℕ
+  t₀ = tagIn b (4 * s)
 
-  pub all-zero : bitOr (bitOr (bitOr n₀ n₁) n₂) n₃ ≡ 0 → (i : ℕ) → i / 4 ≡ s → tagIn b i ≡ 0
+  abbrev t₁ : ℕ
+  t₁ = tagIn b (4 * s + 1)
+
+  abbrev t₂ : ℕ
+  t₂ = tagIn b (4 * s + 2)
+
+  abbrev t₃ : ℕ
+  t₃ = tagIn b (4 * s + 3)
+
+  pub four-read : (n₀ n₁ n₂ n₃ : ℕ) → s < 25 → n₀ ≡ wordAt b (32 + s * 64) → n₁ ≡ wordAt b (32 + s * 64 + 16)
+      → n₂ ≡ wordAt b (32 + s * 64 + 32) → n₃ ≡ wordAt b (32 + s * 64 + 48) → bitOr (bitOr (bitOr n₀ n₁) n₂) n₃ ≡ tagsIn b s
+  four-read n₀ n₁ n₂ n₃ h e₀ e₁ e₂ e₃ =
+      let q₀ : n₀ ≡ t₀ = own n₀ (4 * s) (32 + s * 64) (omega arith) (omega arith) e₀ in
+      let q₁ : n₁ ≡ t₁ = own n₁ (4 * s + 1) (32 + s * 64 + 16) (omega arith) (omega arith) e₁ in
+      let q₂ : n₂ ≡ t₂ = own n₂ (4 * s + 2) (32 + s * 64 + 32) (omega arith) (omega arith) e₂ in
+      let q₃ : n₃ ≡ t₃ = own n₃ (4 * s + 3) (32 + s * 64 + 48) (omega arith) (omega arith) e₃ in
+      rw (q₀, q₁, q₂, q₃)
+    where
+      own : (n i at : ℕ) → i < 100 → at ≡ 32 + i * 16 → n ≡ wordAt b at → n ≡ tagIn b i
+      own n i at g k e = e ∙ ap (wordAt b) k ∙ sym (tag-at b i g)
+
+  pub all-zero : tagsIn b s ≡ 0 → (i : ℕ) → i / 4 ≡ s → tagIn b i ≡ 0
   all-zero z i g = go (i % 4) refl
     where
-      z₂ : bitOr (bitOr n₀ n₁) n₂ ≡ 0
-      z₂ = zero-left (bitOr (bitOr n₀ n₁) n₂) n₃ z
+      z₂ : bitOr (bitOr t₀ t₁) t₂ ≡ 0
+      z₂ = zero-left (bitOr (bitOr t₀ t₁) t₂) t₃ z
 
-      z₁ : bitOr n₀ n₁ ≡ 0
-      z₁ = zero-left (bitOr n₀ n₁) n₂ z₂
+      z₁ : bitOr t₀ t₁ ≡ 0
+      z₁ = zero-left (bitOr t₀ t₁) t₂ z₂
+
+      at : (j : ℕ) → i ≡ j → tagIn b j ≡ 0 → tagIn b i ≡ 0
+      at j e h = ap (tagIn b) e ∙ h
 
       go : (r : ℕ) → i % 4 ≡ r → tagIn b i ≡ 0
-      go zero k = own-tag i (32 + s * 64) n₀ g (omega arith) e₀ ∙ zero-left n₀ n₁ z₁
-      go (suc zero) k = own-tag i (32 + s * 64 + 16) n₁ g (omega arith) e₁ ∙ zero-right n₀ n₁ z₁
-      go (suc (suc zero)) k = own-tag i (32 + s * 64 + 32) n₂ g (omega arith) e₂ ∙ zero-right (bitOr n₀ n₁) n₂ z₂
-      go (suc (suc (suc zero))) k = own-tag i (32 + s * 64 + 48) n₃ g (omega arith) e₃ ∙ zero-right (bitOr (bitOr n₀ n₁) n₂) n₃ z
+      go zero k = at (4 * s) (omega arith) (zero-left t₀ t₁ z₁)
+      go (suc zero) k = at (4 * s + 1) (omega arith) (zero-right t₀ t₁ z₁)
+      go (suc (suc zero)) k = at (4 * s + 2) (omega arith) (zero-right (bitOr t₀ t₁) t₂ z₂)
+      go (suc (suc (suc zero))) k = at (4 * s + 3) (omega arith) (zero-right (bitOr (bitOr t₀ t₁) t₂) t₃ z)
       go (suc (suc (suc (suc r)))) k = absurd (omega arith)
 
-  own-odd : (i at n : ℕ) → i / 4 ≡ s → at ≡ 32 + i * 16 → n ≡ wordAt b at → isHeld (tagIn b i) ≡ isOdd n
-  own-odd i at n g k e =
-      let low : n / 2 ^ 0 % 2 ≡ n % 2 = omega arith in
-      rw (own-tag i at n g k e) (ap (λ (x : ℕ). eqb x 1) low)
-
-  pub any-odd : isOdd (bitOr (bitOr (bitOr n₀ n₁) n₂) n₃) ≡ anyHeld b (slotsOf s)
+  pub any-odd : isOdd (tagsIn b s) ≡ anyHeld b (slotsOf s)
   any-odd =
-      rw (
-        own-odd (4 * s) (32 + s * 64) n₀ (omega arith) (omega arith) e₀,
-        own-odd (4 * s + 1) (32 + s * 64 + 16) n₁ (omega arith) (omega arith) e₁,
-        own-odd (4 * s + 2) (32 + s * 64 + 32) n₂ (omega arith) (omega arith) e₂,
-        own-odd (4 * s + 3) (32 + s * 64 + 48) n₃ (omega arith) (omega arith) e₃,
-        odd-or (bitOr (bitOr n₀ n₁) n₂) n₃,
-        odd-or (bitOr n₀ n₁) n₂,
-        odd-or n₀ n₁,
-        or-false (isOdd n₃),
-      )
-      (or-assoc (isOdd n₀ || isOdd n₁) (isOdd n₂) (isOdd n₃) ∙ or-assoc (isOdd n₀) (isOdd n₁) (isOdd n₂ || isOdd n₃))
+      rw (held-odd t₀, held-odd t₁, held-odd t₂, held-odd t₃, odd-or (bitOr (bitOr t₀ t₁) t₂) t₃, odd-or (bitOr t₀ t₁) t₂, odd-or t₀ t₁, or-false (isOdd t₃))
+      (or-assoc (isOdd t₀ || isOdd t₁) (isOdd t₂) (isOdd t₃) ∙ or-assoc (isOdd t₀) (isOdd t₁) (isOdd t₂ || isOdd t₃))
+    where
+      held-odd : (t : ℕ) → isHeld t ≡ isOdd t
+      held-odd t = let low : t / 2 ^ 0 % 2 ≡ t % 2 = omega arith in ap (λ (x : ℕ). eqb x 1) low

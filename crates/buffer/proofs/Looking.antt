@@ -10,7 +10,7 @@ use native.Mathlib.Numerals.{add-one, add-four, add-eight}
 use lib.Dec.{eqb}
 use lib.ListN.{length, getD, drop}
 use lib.Seq.{drop-cons}
-use lib.Bits.{bitAnd, bitOr}
+use lib.Bits.{bitAnd}
 use borrow.Author.Tests.{eq-eqb}
 use Rattle.rules.specs.Bits.{wordAt}
 use Rattle.rules.specs.Sizes.{small, middle, large, Is, sizeAt, pageNumber, setOf, ways}
@@ -21,7 +21,7 @@ use Rattle.rules.proofs.PlaceLaws.{tag-at}
 use Rattle.rules.proofs.SizeLaws.{size-at, set-lt, slot-size}
 use Rattle.buffer.specs.declared.look.Place.{Place}
 use Rattle.buffer.specs.declared.look.Place.the-variants.{At, Nowhere}
-use Rattle.buffer.specs.Look.{hitOf, Right, Looks, tagIn, isPage, isOf, holds, anyHeld, FirstHeld}
+use Rattle.buffer.specs.Look.{hitOf, Right, Looks, tagIn, isPage, isOf, holds, anyHeld, FirstHeld, tagsIn}
 use Rattle.buffer.specs.Fill.{slotsOf}
 use Rattle.buffer.specs.Drops.{isMasked}
 use Rattle.buffer.proofs.TagTests.{test-held, test-page}
@@ -53,11 +53,8 @@ module _ (b : List ℕ) (a : ℕ) (z : Size) (n s : ℕ) (is : Is z) (en : n ≡
       let g : i / 4 ≡ setOf z a = h ∙ own-set in
       (omega (arith, set-lt z a is), ap (λ (y : Size). y .length) (sym (slot-size z a i is g)))
 
-  pub any-test : (n₀ n₁ n₂ n₃ : ℕ) → n₀ ≡ wordAt b (32 + s * 64) → n₁ ≡ wordAt b (32 + s * 64 + 16)
-      → n₂ ≡ wordAt b (32 + s * 64 + 32) → n₃ ≡ wordAt b (32 + s * 64 + 48)
-      → eqb (bitOr (bitOr (bitOr n₀ n₁) n₂) n₃ % 2) 1 ≡ anyHeld b (ways z a)
-  any-test n₀ n₁ n₂ n₃ e₀ e₁ e₂ e₃ =
-      any-odd b s n₀ n₁ n₂ n₃ (rw own-set (set-lt z a is)) e₀ e₁ e₂ e₃ ∙ ap (λ (y : ℕ). anyHeld b (slotsOf y)) own-set
+  pub any-test : (n : ℕ) → n ≡ tagsIn b s → eqb (n % 2) 1 ≡ anyHeld b (ways z a)
+  any-test n e = ap (λ (x : ℕ). eqb (x % 2) 1) e ∙ any-odd b s ∙ ap (λ (y : ℕ). anyHeld b (slotsOf y)) own-set
 
   of-set : (r : Place) → hitOf r ≡ first (holds b a) (4 * s ∷ (4 * s + 1) ∷ (4 * s + 2) ∷ (4 * s + 3) ∷ []) → Right r → FirstHeld b a (ways z a) r
   of-set r h g = subst (λ (y : ℕ). FirstHeld b a (4 * y ∷ (4 * y + 1) ∷ (4 * y + 2) ∷ (4 * y + 3) ∷ []) r) own-set (record { held = h; right = g })

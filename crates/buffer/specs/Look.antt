@@ -1,9 +1,10 @@
 -- Looking up in the image's bytes: where a page is held, and what the code finds on the way.
-use Prim.Native.Nat.{ℕ, _<_}
+use Prim.Native.Nat.{ℕ, _+_, _*_, _<_}
 use mathlib.Core.Path.{_≡_}
 use mathlib.Core.Bool.{Bool, false, _&&_, _||_}
 use mathlib.Core.List.{List, [], _∷_}
 use lib.Dec.{eqb}
+use lib.Bits.{bitOr}
 use Rattle.rules.specs.Sizes.{sizeOf}
 use Rattle.rules.specs.Image.{decode, isHeld, isGlobal, pcidIn, pageIn}
 use Rattle.rules.specs.Buffer.{contains, Hit, hit, miss, first, find}
@@ -44,6 +45,10 @@ holds b a i = isHeld (tagIn b i) && contains a i (tagIn b i)
 pub record FirstHeld (b : List ℕ) (a : ℕ) (is : List ℕ) (r : Place) : Type 0 where
   pub held : hitOf r ≡ first (holds b a) is
   pub right : Right r
+
+-- the tags of a set's four ways, or-ed
+abbrev pub tagsIn : List ℕ → ℕ → ℕ
+tagsIn b s = bitOr (bitOr (bitOr (tagIn b (4 * s)) (tagIn b (4 * s + 1))) (tagIn b (4 * s + 2))) (tagIn b (4 * s + 3))
 
 -- one of some slots is in use
 abbrev pub anyHeld : List ℕ → List ℕ → Bool

@@ -11,6 +11,7 @@ use crate::size;
 use crate::size::Page1G;
 use crate::size::Page2M;
 use crate::size::Page4K;
+use crate::tags;
 use rules::Size;
 
 // The slot's sixteen bytes become zero if its tag under the mask is the one wanted, and is everybody's or under the other mask says whose.
@@ -55,12 +56,7 @@ fn drop_used(image: &mut [u8], set: usize, mask: u64, want: u64)
     requires { ⌜ IsImage (now image) × (set < 25) ⌝ }
     ensures { λ _. ⌜ now (image .exit) ≡ droppedIn (maskedIn set mask want 0 0) (now (image .entry)) ⌝ }
 {
-    let at = 32 + set * 64;
-    let tags = words::read_word(image, at)
-        | words::read_word(image, at + 16)
-        | words::read_word(image, at + 32)
-        | words::read_word(image, at + 48);
-    if tags == 0 {
+    if tags::tags_in(image, set) == 0 {
         drop_in_set(image, set, 0, want, 0, 0);
         return;
     }

@@ -65,12 +65,8 @@ fn any_in(image: &[u8], z: Size, a: u64) -> bool
     ensures { λ r. ⌜ r ≡ anyHeld (now (image .entry)) (ways z a) ⌝ }
 {
     let number = crate::size::page_number(z, a);
-    let at = 32 + crate::size::set_of(z, number) as usize * 64;
-    let any = words::read_word(image, at)
-        | words::read_word(image, at + 16)
-        | words::read_word(image, at + 32)
-        | words::read_word(image, at + 48);
-    any % 2 == 1
+    let set = crate::size::set_of(z, number) as usize;
+    crate::tags::tags_in(image, set) % 2 == 1
 }
 
 // The same as `held_of`, for a size whose sets are often empty: then none of the ways is compared.

@@ -2,7 +2,6 @@
 -- One law of `Steps` a way out: nothing is mapped; a small page; a large one; a table, whose entry is marked on the way back, or not after a fault, or was
 -- already; a reserved bit.
 use Prim.Native.Nat.{ℕ, _<_}
-use native.Mathlib.Omega.{arith}
 use borrow.Author.Needs.{needs}
 use borrow.Fn.Kinds.{In}
 use borrow.Fn.PlainCycle.{Measures, is, falls, and}

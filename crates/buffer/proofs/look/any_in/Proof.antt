@@ -1,4 +1,4 @@
--- The four words are the tags of the set's ways, and their `or` is odd if one of them is.
+-- The `or` of the set's tags is odd if one of them is.
 use Rattle.buffer.proofs.Looking.{any-test}
 use borrow.Author.Needs.{needs}
 use Rattle.buffer.proofs.look.any_in.Statement.{statement}
@@ -10,32 +10,8 @@ page-number-requires c κs = search needs
 set-of-requires : tie.Need-set-of-requires
 set-of-requires c κs = search needs
 
-mul-at : tie.Need-mul-at
-mul-at c = search needs
-
-add-at : tie.Need-add-at
-add-at c = search needs
-
-read-word-requires : tie.Need-read-word-requires
-read-word-requires c κs = search needs
-
-add-read-word : tie.Need-add-read-word
-add-read-word c = search needs
-
-read-word-requires-2 : tie.Need-read-word-requires-2
-read-word-requires-2 c κs = search needs
-
-add-read-word-2 : tie.Need-add-read-word-2
-add-read-word-2 c = search needs
-
-read-word-requires-3 : tie.Need-read-word-requires-3
-read-word-requires-3 c κs = search needs
-
-add-read-word-3 : tie.Need-add-read-word-3
-add-read-word-3 c = search needs
-
-read-word-requires-4 : tie.Need-read-word-requires-4
-read-word-requires-4 c κs = search needs
+tags-in-requires : tie.Need-tags-in-requires
+tags-in-requires c κs = search needs
 
 returns : tie.Need-returns
 returns c = search any-test
@@ -46,13 +22,5 @@ any-in-spec =
     (tie.spec
     page-number-requires
     set-of-requires
-    mul-at
-    add-at
-    read-word-requires
-    add-read-word
-    read-word-requires-2
-    add-read-word-2
-    read-word-requires-3
-    add-read-word-3
-    read-word-requires-4
+    tags-in-requires
     returns)

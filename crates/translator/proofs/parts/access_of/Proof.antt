@@ -1,6 +1,5 @@
 -- Six kinds.
 use Rattle.translator.proofs.Numbers.{access-is}
-use borrow.Author.Needs.{needs}
 use Rattle.translator.proofs.parts.access_of.Statement.{statement}
 use Rattle.translator.proofs.parts.access_of.Tie as tie
 

@@ -1,5 +1,4 @@
 -- Refused, or accepted: then the bytes are an image's with a width (`u`), and paging is on or off.
-use Rattle.rules.specs.Refusals.{translate}
 use native.Mathlib.Omega.{arith}
 use Rattle.translator.proofs.Calling.{call-room}
 use Rattle.translator.proofs.Translating.{refuses-it, use-image, whole, known, pages, flat}
