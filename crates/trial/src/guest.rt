@@ -2,6 +2,8 @@
 ghost use mathlib.Core.Path.{_≡_};
 ghost use Prim.Native.Nat.{_+_, _≤_};
 ghost use Rattle.rules.specs.Bits.{wordAt, wordPut};
+ghost use Rattle.rules.specs.Refusals.{translate as translateOf, writeCr3, writeMode};
+ghost use Rattle.trial.specs.Trial.{guest, ready, Came, CameWith};
 use crate::report;
 use crate::report::Outcome;
 use translator::calls;
@@ -23,7 +25,9 @@ fn put(mem: &mut [u8; 24576], at: usize, entry: u64)
 }
 
 // The guest's 24 KiB as they are before a case.
-pub fn memory() -> [u8; 24576] {
+pub fn memory() -> [u8; 24576]
+    ensures { λ r. ⌜ r ≡ guest ⌝ }
+{
     let mut mem = [0u8; 24576];
     put(&mut mem, 0x1000, 0x2007);
     put(&mut mem, 0x2000, 0x3007);
@@ -39,7 +43,9 @@ pub fn memory() -> [u8; 24576] {
 }
 
 // The image as it is before a case.
-pub fn image() -> [u8; 2048] {
+pub fn image() -> [u8; 2048]
+    ensures { λ r. ⌜ r ≡ ready ⌝ }
+{
     let mut image = [0u8; 2048];
     calls::start(&mut image, 40);
     calls::write_cr3(&mut image, 0x1000);
@@ -55,14 +61,20 @@ pub fn word(mem: &[u8; 24576], at: usize) -> u64
     words::read_word(mem, at)
 }
 
-pub fn translate(image: &mut [u8; 2048], mem: &mut [u8; 24576], kind: u64, a: u64) -> Outcome {
+pub fn translate(image: &mut [u8; 2048], mem: &mut [u8; 24576], kind: u64, a: u64) -> Outcome
+    ensures { λ r. ⌜ CameWith (translateOf kind a) (now (image .entry)) (now (image .exit)) (now (mem .entry)) (now (mem .exit)) r ⌝ }
+{
     report::outcome_of(translation::translate(image, mem, kind, a))
 }
 
-pub fn write_cr3(image: &mut [u8; 2048], value: u64) -> Outcome {
+pub fn write_cr3(image: &mut [u8; 2048], value: u64) -> Outcome
+    ensures { λ r. ⌜ Came (writeCr3 value) (now (image .entry)) (now (image .exit)) r ⌝ }
+{
     report::outcome_of(calls::write_cr3(image, value))
 }
 
-pub fn write_mode(image: &mut [u8; 2048], flags: u64) -> Outcome {
+pub fn write_mode(image: &mut [u8; 2048], flags: u64) -> Outcome
+    ensures { λ r. ⌜ Came (writeMode flags) (now (image .entry)) (now (image .exit)) r ⌝ }
+{
     report::outcome_of(calls::write_mode(image, flags))
 }

@@ -1,8 +1,7 @@
 // What a call came to, and the lines that are written of it.
 ghost use mathlib.Core.Path.{_≡_};
-ghost use mathlib.Core.Bool.{_&&_};
 ghost use lib.Dec.{eqb};
-ghost use Rattle.rules.specs.Answers.{numbers};
+ghost use Rattle.trial.specs.Trial.{Tells, isSame, judged};
 use rules::Answer;
 
 // An answer as the paper's record has it, without the page size.
@@ -60,7 +59,7 @@ pub fn done() -> Outcome
 }
 
 pub fn outcome_of(answer: Answer) -> Outcome
-    ensures { λ r. ⌜ (r .kind ≡ numbers answer .kind) × ((r .value ≡ numbers answer .value) × (r .read ≡ numbers answer .read)) ⌝ }
+    ensures { λ r. ⌜ Tells answer r ⌝ }
 {
     match answer {
         Answer::Address {
@@ -80,7 +79,7 @@ pub fn outcome_of(answer: Answer) -> Outcome
 }
 
 fn is_same(a: Outcome, b: Outcome) -> bool
-    ensures { λ r. ⌜ r ≡ (eqb (a .kind) (b .kind) && eqb (a .value) (b .value) && eqb (a .read) (b .read)) ⌝ }
+    ensures { λ r. ⌜ r ≡ isSame a b ⌝ }
 {
     (a.kind == b.kind) & (a.value == b.value) & (a.read == b.read)
 }
@@ -122,7 +121,9 @@ fn write_outcome(o: Outcome) {
 }
 
 // The end of a line; the sums cannot wrap before 2^64 lines are written.
-fn judge(t: Tally, good: bool) -> Tally {
+fn judge(t: Tally, good: bool) -> Tally
+    ensures { λ r. ⌜ r ≡ judged good t ⌝ }
+{
     if good {
         write(b": passed\n");
         return Tally {
@@ -138,7 +139,9 @@ fn judge(t: Tally, good: bool) -> Tally {
 }
 
 // A line on what a call came to.
-pub fn call(t: Tally, name: &[u8], expected: Outcome, came: Outcome) -> Tally {
+pub fn call(t: Tally, name: &[u8], expected: Outcome, came: Outcome) -> Tally
+    ensures { λ r. ⌜ r ≡ judged (isSame expected came) t ⌝ }
+{
     write(name);
     write(b": expected ");
     write_outcome(expected);
@@ -148,7 +151,9 @@ pub fn call(t: Tally, name: &[u8], expected: Outcome, came: Outcome) -> Tally {
 }
 
 // A line on what a word of the guest's holds.
-pub fn word(t: Tally, name: &[u8], expected: u64, came: u64) -> Tally {
+pub fn word(t: Tally, name: &[u8], expected: u64, came: u64) -> Tally
+    ensures { λ r. ⌜ r ≡ judged (eqb expected came) t ⌝ }
+{
     write(name);
     write(b": expected ");
     write_number(expected);

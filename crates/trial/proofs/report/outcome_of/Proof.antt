@@ -31,7 +31,9 @@ returns : tie.Need-returns
 returns c = search needs
 
 returns-2 : tie.Need-returns-2
-returns-2 c = rw (c .before .before .answer2 .given .1) (c .fault .ensures)
+returns-2 c =
+    let e = c .fault .ensures in
+    rw (c .before .before .answer2 .given .1) (record { kind = e .0; value = e .1 .0; read = e .1 .1 })
 
 returns-3 : tie.Need-returns-3
 returns-3 c = search needs
