@@ -10,7 +10,7 @@ use Rattle.rules.specs.Calls.{Outcome, call}
 use Rattle.rules.specs.declared.Answer.{Answer}
 use Rattle.translator.specs.Contract.{Leaves}
 use Rattle.trial.specs.declared.report.Tally.{Tally}
-use Rattle.trial.specs.Trial.{over, ready, judged}
+use Rattle.trial.specs.Trial.{written, tables, ready, judged}
 
 pub passes : (g : Bool) (t : Tally) (n : ℕ) → g ≡ true → n ≡ (t .passed + 1) % 2 ^ 64 → _≡_ {A = Tally} (record { passed = n; failed = t .failed }) (judged g t)
 passes g t n e h = rw (e, h)
@@ -38,5 +38,5 @@ pub ten-words : (m₀ m₁ m₂ m₃ m₄ m₅ m₆ m₇ m₈ m₉ m₁₀ : Lis
     → m₇ ≡ wordPut m₆ 0x4008 0x5005 → m₆ ≡ wordPut m₅ 0x4000 0x5003 → m₅ ≡ wordPut m₄ 0x3008 0x600087
     → m₄ ≡ wordPut m₃ 0x3000 0x4007 → m₃ ≡ wordPut m₂ 0x2008 0x40000083 → m₂ ≡ wordPut m₁ 0x2000 0x3007
     → m₁ ≡ wordPut m₀ 0x1000 0x2007
-    → m₁₀ ≡ over m₀
+    → m₁₀ ≡ written m₀ tables
 ten-words m₀ m₁ m₂ m₃ m₄ m₅ m₆ m₇ m₈ m₉ m₁₀ h₁₀ h₉ h₈ h₇ h₆ h₅ h₄ h₃ h₂ h₁ = rw (h₁₀, h₉, h₈, h₇, h₆, h₅, h₄, h₃, h₂, h₁)

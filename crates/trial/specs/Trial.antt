@@ -2,7 +2,7 @@
 use Prim.Native.Nat.{ℕ, _+_, _%_, _^_}
 use mathlib.Core.Path.{_≡_}
 use mathlib.Core.Bool.{Bool, true, false, _&&_}
-use mathlib.Core.List.{List, []}
+use mathlib.Core.List.{List, [], _∷_}
 use lib.ListN.{replicate}
 use lib.Dec.{eqb}
 use Rattle.rules.specs.Bits.{wordPut}
@@ -15,19 +15,28 @@ use Rattle.translator.specs.Contract.{Leaves, Translates}
 use Rattle.trial.specs.declared.report.Outcome.{Outcome}
 use Rattle.trial.specs.declared.report.Tally.{Tally}
 
--- the guest's tables: words written over zeros, each at its place
-abbrev pub over : List ℕ → List ℕ
-over m =
-    wordPut
-    (wordPut
-    (wordPut
-    (wordPut (wordPut (wordPut (wordPut (wordPut (wordPut (wordPut m 0x1000 0x2007) 0x2000 0x3007) 0x2008 0x40000083) 0x3000 0x4007) 0x3008 0x600087) 0x4000 0x5003) 0x4008 0x5005)
-    0x4010 0x8000000000005007)
-    0x4020 0x10000005007)
-    0x4028 0x5107
+-- words written one after the other, each at its place
+abbrev pub written : List ℕ → List (ℕ × ℕ) → List ℕ
+written m [] = m
+written m (w ∷ ws) = written (wordPut m (w .0) (w .1)) ws
+
+-- the guest's tables, as the paper lists their words; the rest is zero
+abbrev pub tables : List (ℕ × ℕ)
+tables =
+    (0x1000, 0x2007)
+    ∷ (0x2000, 0x3007)
+    ∷ (0x2008, 0x40000083)
+    ∷ (0x3000, 0x4007)
+    ∷ (0x3008, 0x600087)
+    ∷ (0x4000, 0x5003)
+    ∷ (0x4008, 0x5005)
+    ∷ (0x4010, 0x8000000000005007)
+    ∷ (0x4020, 0x10000005007)
+    ∷ (0x4028, 0x5107)
+    ∷ []
 
 abbrev pub guest : List ℕ
-guest = over (replicate 24576 0)
+guest = written (replicate 24576 0) tables
 
 -- the image before a case: the state is reached by the calls themselves
 abbrev pub ready : List ℕ
