@@ -94,7 +94,8 @@ uint64_t pastrulow_start(uint8_t *image, size_t image_len, uint64_t width, uint8
 uint64_t pastrulow_translate(uint8_t *image, size_t image_len, uint8_t *memory, size_t memory_len, uint64_t kind,
                              uint64_t address, uint8_t *answer, size_t answer_len);
 
-/* The INVLPG instruction: drops what the buffer holds for this address under the current PCID, global pages too. */
+/* The INVLPG instruction: drops what the buffer holds for this address under the current PCID, global pages too; of an address
+   that is not canonical nothing, which is no refusal. */
 uint64_t pastrulow_invlpg(uint8_t *image, size_t image_len, uint64_t address, uint8_t *answer, size_t answer_len);
 
 /* The INVPCID instruction: drops by type; the address is looked at for type 0 only. */
