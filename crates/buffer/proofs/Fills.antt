@@ -16,7 +16,8 @@ use Rattle.rules.specs.Buffer.{hit, miss, first, stored, withVictims}
 use Rattle.rules.proofs.WordLaws.{bytes-length}
 use Rattle.rules.proofs.ImageLaws.{Sound, victims-bytes, store-bytes, decode-encode}
 use Rattle.rules.proofs.PlaceLaws.{IsImage, tag-at, victims-at, is-encoded, sound-victims}
-use Rattle.buffer.specs.Fill.{slotsOf, isFree, IsLowest, slotPut, filledAt}
+use Rattle.sets.specs.Ways.{slotsOf}
+use Rattle.buffer.specs.Fill.{isFree, IsLowest, slotPut, filledAt}
 
 -- ---- free_way: the ways below this one are in use
 pub record Passed (s : Image) (set way : ℕ) : Type 0 where

@@ -21,11 +21,10 @@ use Rattle.rules.proofs.PlaceLaws.{tag-at}
 use Rattle.rules.proofs.SizeLaws.{size-at, set-lt, slot-size}
 use Rattle.buffer.specs.declared.look.Place.{Place}
 use Rattle.buffer.specs.declared.look.Place.the-variants.{At, Nowhere}
-use Rattle.buffer.specs.Look.{hitOf, Right, Looks, tagIn, isPage, isOf, holds, anyHeld, FirstHeld, tagsIn}
-use Rattle.buffer.specs.Fill.{slotsOf}
-use Rattle.buffer.specs.Drops.{isMasked}
-use Rattle.buffer.proofs.TagTests.{test-held, test-page}
-use Rattle.buffer.proofs.FourTags.{any-odd}
+use Rattle.sets.specs.Ways.{slotsOf, tagIn, tagsIn, anyHeld, isMasked}
+use Rattle.buffer.specs.Look.{hitOf, Right, Looks, isPage, isOf, holds, FirstHeld}
+use Rattle.sets.proofs.TagTests.{test-held, test-page}
+use Rattle.sets.proofs.FourTags.{any-odd}
 
 -- ---- what is tested of a tag
 pub page-test : (b : List ℕ) (at n t : ℕ) → t ≡ wordAt b at → eqb (bitAnd t 0x3FFFFFFFFC001) (n * 0x4000 + 1) ≡ isPage n (wordAt b at)

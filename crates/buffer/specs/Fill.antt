@@ -2,16 +2,13 @@
 use Prim.Native.Nat.{ℕ, _+_, _*_, _≤_}
 use mathlib.Core.Path.{_≡_}
 use mathlib.Core.Bool.{Bool, cond, not}
-use mathlib.Core.List.{List, [], _∷_, _++_}
+use mathlib.Core.List.{List, _++_}
 use lib.ListN.{take, drop}
 use lib.Dec.{ltb}
 use Rattle.rules.specs.Bits.{bytesOf}
 use Rattle.rules.specs.Image.{Image, isHeld}
+use Rattle.sets.specs.Ways.{slotsOf}
 use Rattle.rules.specs.Buffer.{Hit, hit, miss, first, put}
-
--- the four slots of a set, for any size: `ways` of a page that stands there
-abbrev pub slotsOf : ℕ → List ℕ
-slotsOf set = (4 * set) ∷ (4 * set + 1) ∷ (4 * set + 2) ∷ (4 * set + 3) ∷ []
 
 abbrev pub isFree : Image → ℕ → Bool
 isFree s i = not (isHeld (s .slots i .tag))

@@ -1,3 +1,2 @@
 pub mod Look
-pub mod Drops
 pub mod Fill

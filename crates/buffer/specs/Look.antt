@@ -1,13 +1,13 @@
 -- Looking up in the image's bytes: where a page is held, and what the code finds on the way.
-use Prim.Native.Nat.{ℕ, _+_, _*_, _<_}
+use Prim.Native.Nat.{ℕ, _<_}
 use mathlib.Core.Path.{_≡_}
-use mathlib.Core.Bool.{Bool, false, _&&_, _||_}
-use mathlib.Core.List.{List, [], _∷_}
+use mathlib.Core.Bool.{Bool, _&&_, _||_}
+use mathlib.Core.List.{List}
 use lib.Dec.{eqb}
-use lib.Bits.{bitOr}
 use Rattle.rules.specs.Sizes.{sizeOf}
 use Rattle.rules.specs.Image.{decode, isHeld, isGlobal, pcidIn, pageIn}
 use Rattle.rules.specs.Buffer.{contains, Hit, hit, miss, first, find}
+use Rattle.sets.specs.Ways.{tagIn}
 use Rattle.buffer.specs.declared.look.Place.{Place}
 use Rattle.buffer.specs.declared.look.Place.the-variants.{At, Nowhere}
 
@@ -26,9 +26,6 @@ pub record Looks (b : List ℕ) (a : ℕ) (r : Place) : Type 0 where
   pub right : Right r
 
 -- ---- a match is a page that is held and is one's own
-abbrev pub tagIn : List ℕ → ℕ → ℕ
-tagIn b i = decode b .slots i .tag
-
 -- in use, and of the page of that number
 abbrev pub isPage : ℕ → ℕ → Bool
 isPage n t = isHeld t && eqb (pageIn t) n
@@ -45,12 +42,3 @@ holds b a i = isHeld (tagIn b i) && contains a i (tagIn b i)
 pub record FirstHeld (b : List ℕ) (a : ℕ) (is : List ℕ) (r : Place) : Type 0 where
   pub held : hitOf r ≡ first (holds b a) is
   pub right : Right r
-
--- the tags of a set's four ways, or-ed
-abbrev pub tagsIn : List ℕ → ℕ → ℕ
-tagsIn b s = bitOr (bitOr (bitOr (tagIn b (4 * s)) (tagIn b (4 * s + 1))) (tagIn b (4 * s + 2))) (tagIn b (4 * s + 3))
-
--- one of some slots is in use
-abbrev pub anyHeld : List ℕ → List ℕ → Bool
-anyHeld b [] = false
-anyHeld b (i ∷ is) = isHeld (tagIn b i) || anyHeld b is

@@ -7,11 +7,14 @@ ghost use Rattle.rules.specs.Bits.{wordAt};
 ghost use Rattle.rules.specs.Sizes.{Is, ways};
 ghost use Rattle.rules.specs.Image.{decode, pcid as pcidOf};
 ghost use Rattle.rules.specs.Buffer.{allWays};
-ghost use Rattle.buffer.specs.Look.{Looks, tagIn, isPage, isOf, anyHeld, FirstHeld};
-use crate::size::Page1G;
-use crate::size::Page2M;
-use crate::size::Page4K;
+ghost use Rattle.sets.specs.Ways.{tagIn, anyHeld};
+ghost use Rattle.buffer.specs.Look.{Looks, isPage, isOf, FirstHeld};
 use rules::Size;
+use sets::size;
+use sets::size::Page1G;
+use sets::size::Page2M;
+use sets::size::Page4K;
+use sets::tags;
 
 // Where a page is held: a slot, and the length of its page.
 pub enum Place {
@@ -41,8 +44,8 @@ fn held_of(image: &[u8], z: Size, a: u64) -> Place
     requires { ⌜ (length (now image) ≡ 2048) × Is z ⌝ }
     ensures { λ r. ⌜ FirstHeld (now (image .entry)) a (ways z a) r ⌝ }
 {
-    let number = crate::size::page_number(z, a);
-    let i = 4 * crate::size::set_of(z, number) as usize;
+    let number = size::page_number(z, a);
+    let i = 4 * size::set_of(z, number) as usize;
     let at = 32 + i * 16;
     if is_page(image, at, number) {
         return Place::At(i, z.length);
@@ -64,9 +67,9 @@ fn any_in(image: &[u8], z: Size, a: u64) -> bool
     requires { ⌜ (length (now image) ≡ 2048) × Is z ⌝ }
     ensures { λ r. ⌜ r ≡ anyHeld (now (image .entry)) (ways z a) ⌝ }
 {
-    let number = crate::size::page_number(z, a);
-    let set = crate::size::set_of(z, number) as usize;
-    crate::tags::tags_in(image, set) % 2 == 1
+    let number = size::page_number(z, a);
+    let set = size::set_of(z, number) as usize;
+    tags::tags_in(image, set) % 2 == 1
 }
 
 // The same as `held_of`, for a size whose sets are often empty: then none of the ways is compared.
@@ -101,9 +104,9 @@ fn look_all(image: &[u8], a: u64, pcid: u64) -> Place
 {
     let mut k = 0;
     while k < 12 {
-        let z = crate::size::size_at(1 + k / 4);
-        let number = crate::size::page_number(z, a);
-        let i = (4 * crate::size::set_of(z, number) + k % 4) as usize;
+        let z = size::size_at(1 + k / 4);
+        let number = size::page_number(z, a);
+        let i = (4 * size::set_of(z, number) + k % 4) as usize;
         if is_page(image, 32 + i * 16, number) & is_of(image, i, pcid) {
             return Place::At(i, z.length);
         }

@@ -21,7 +21,7 @@ use Rattle.rules.specs.declared.Answer.the-variants.{Refused, Done}
 use Rattle.rules.proofs.WordLaws.{zero-tail}
 use Rattle.rules.proofs.ImageLaws.{Sound, cr3-bytes, flags-bytes, decode-encode}
 use Rattle.rules.proofs.PlaceLaws.{IsImage, image-of, is-encoded, flags-at, cr3-at}
-use Rattle.buffer.specs.Drops.{droppedIn, every, notGlobal, ofSpace, ofSpaceAt}
+use Rattle.drops.specs.Drops.{droppedIn, every, notGlobal, ofSpace, ofSpaceAt}
 use Rattle.translator.specs.Contract.{IsSpace, Leaves}
 use Rattle.refusals.proofs.Checks.{or-left, or-right, fit-long, fit-tail}
 

@@ -35,8 +35,8 @@ use Rattle.buffer.specs.declared.look.Place.{Place}
 use Rattle.buffer.specs.declared.look.Place.the-variants.{At, Nowhere}
 use Rattle.buffer.specs.Look.{hitOf, Looks}
 use Rattle.buffer.specs.Fill.{filledAt}
-use Rattle.buffer.specs.Drops.{droppedIn}
-use Rattle.buffer.proofs.DropLaws.{image-dropped, says-dropped}
+use Rattle.drops.specs.Drops.{droppedIn}
+use Rattle.drops.proofs.DropLaws.{image-dropped, says-dropped}
 use Rattle.translator.specs.Contract.{IsSpace, Translates, Usable, Gives, missed, Fits, Finishes}
 use Rattle.refusals.proofs.Checks.{fit-wide, fit-narrow}
 use Rattle.translator.proofs.Calling.{fits, call-image}

@@ -5,7 +5,6 @@ ghost use Rattle.rules.specs.Refusals.{start as startOf, invlpg as invlpgOf, in
 ghost use Rattle.rules.specs.Calls.{isSame, sameMode};
 ghost use Rattle.translator.specs.Contract.{Leaves};
 use crate::parts;
-use buffer::drops;
 use rules::Answer;
 
 // Every byte is zero.

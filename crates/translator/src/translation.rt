@@ -11,16 +11,15 @@ ghost use Rattle.rules.specs.Refusals.{translate as translateOf};
 ghost use Rattle.rules.proofs.PlaceLaws.{IsImage};
 ghost use Rattle.translator.specs.Contract.{IsSpace, Translates, Usable, Gives, missed as missedOf, Fits, Finishes};
 use crate::parts;
-use buffer::drops;
 use buffer::look;
 use buffer::look::Place;
-use buffer::size;
 use rules::Access;
 use rules::Answer;
 use rules::Control;
 use rules::Found;
 use rules::Rights;
 use rules::Size;
+use sets::size;
 
 // What a walk goes by.
 fn control_of(image: &[u8], space: u64) -> Control

@@ -1,5 +1,5 @@
 -- The first of the three sizes that has one; a size that `size` gives is one of them.
-use Rattle.buffer.proofs.Sizes.{is-4k, is-2m, is-1g}
+use Rattle.sets.proofs.Sizes.{is-4k, is-2m, is-1g}
 use Rattle.buffer.proofs.Looking.{held-small, held-middle, held-large}
 use borrow.Author.Needs.{needs}
 use Rattle.buffer.proofs.look.held.Statement.{statement}

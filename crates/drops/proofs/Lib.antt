@@ -1,0 +1,3 @@
+pub mod SetTests
+pub mod DropLaws
+pub mod DropWays

@@ -1,0 +1,20 @@
+-- The test of `drop_others`, at an address.
+use Rattle.drops.proofs.DropWays.{address-dropped}
+use borrow.Author.Needs.{needs}
+use Rattle.drops.proofs.drop_address.Statement.{statement}
+use Rattle.drops.proofs.drop_address.Tie as tie
+
+mul-drop-at : tie.Need-mul-drop-at
+mul-drop-at c = search needs
+
+drop-at-requires : tie.Need-drop-at-requires
+drop-at-requires c κs = search needs
+
+same-length : tie.Need-same-length
+same-length c = search needs
+
+returns : tie.Need-returns
+returns c = search (address-dropped, needs)
+
+pub drop-address-spec : {M : Type 1} → statement M
+drop-address-spec = tie.close (tie.spec mul-drop-at drop-at-requires same-length returns)

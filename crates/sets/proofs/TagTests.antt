@@ -1,0 +1,87 @@
+-- What the masked compares of the code say in the rules' terms.
+-- A number under a mask of neighbouring bits is those bits where they stand, and two such numbers are equal if each part of them is.
+use Prim.Native.Nat.{ℕ, _+_, _-_, _*_, _/_, _%_, _^_, _≤_, _<_}
+use mathlib.Core.Path.{_≡_, refl, ap, sym, _∙_}
+use mathlib.Core.Bool.{Bool, true, false, _&&_, not}
+use native.Mathlib.Omega.{arith}
+use native.Mathlib.Nat.{mod-lt, zero-mul, zero-add}
+use lib.Dec.{eqb}
+use lib.Pow.{pow-pos, split, shr-shr, mod-pow-add}
+use lib.Bits.{bitAnd, and-zero-r, and-mask, and-high, and-block, and-le-r}
+use borrow.Author.Tests.{eq-eqb, ne-eqb, eqb-true, eqb-false}
+use Rattle.rules.specs.Image.{isHeld, isGlobal, pcidIn, pageIn}
+use Rattle.rules.specs.Buffer.{others}
+use Rattle.sets.specs.Ways.{isMasked}
+
+-- ---- an equation that holds with another, or with another two
+same-test : (x y u v : ℕ) → (u ≡ v → x ≡ y) → (x ≡ y → u ≡ v) → eqb x y ≡ eqb u v
+same-test x y u v f g = go (eqb u v) refl
+  where
+    go : (b : Bool) → eqb u v ≡ b → eqb x y ≡ b
+    go true e = eq-eqb x y (f (eqb-true u v e))
+    go false e = ne-eqb x y (λ (q : x ≡ y). eqb-false u v e (g q))
+
+both-tests : (x y u v m n : ℕ) → (u ≡ v → m ≡ n → x ≡ y) → (x ≡ y → u ≡ v) → (x ≡ y → m ≡ n) → eqb x y ≡ (eqb u v && eqb m n)
+both-tests x y u v m n f g h = go (eqb u v) (eqb m n) refl refl
+  where
+    go : (b c : Bool) → eqb u v ≡ b → eqb m n ≡ c → eqb x y ≡ (b && c)
+    go true true d e = eq-eqb x y (f (eqb-true u v d) (eqb-true m n e))
+    go true false d e = ne-eqb x y (λ (q : x ≡ y). eqb-false m n e (h q))
+    go false c d e = ne-eqb x y (λ (q : x ≡ y). eqb-false u v d (g q))
+
+off : (x : ℕ) → x < 2 → not (eqb x 1) ≡ eqb x 0
+off x h = go (eqb x 1) refl
+  where
+    go : (b : Bool) → eqb x 1 ≡ b → not b ≡ eqb x 0
+    go true e = let q : x ≡ 1 = eqb-true x 1 e in rw q
+    go false e = let q : x ≡ 1 → ⊥ = eqb-false x 1 e in sym (eq-eqb x 0 (omega arith))
+
+not-global : (t : ℕ) → not (isGlobal t) ≡ eqb (t / 2 ^ 1 % 2) 0
+not-global t = off (t / 2 ^ 1 % 2) (omega arith)
+
+-- ---- the masks
+pub test-nothing : (t : ℕ) → isMasked 0 0 t ≡ true
+test-nothing t = rw (and-zero-r t)
+
+pub test-not-global : (t : ℕ) → isMasked 2 0 t ≡ not (isGlobal t)
+test-not-global t =
+    rw (and-high t 1 1, not-global t) (same-test (t / 2 ^ 1 % 2 ^ 1 * 2 ^ 1) 0 (t / 2 ^ 1 % 2) 0 (λ h. omega arith) (λ h. omega arith))
+
+pub test-others : (p t : ℕ) → isMasked 0x3FFE (p * 4) t ≡ others p t
+test-others p t =
+    let d : t / 2 ^ 1 % 2 ^ 13 ≡ pcidIn t * 2 + t / 2 ^ 1 % 2 = rw (shr-shr t 1 1) at (mod-pow-add (t / 2 ^ 1) 12 1) in
+    rw (and-high t 13 1, not-global t, d) (go (pcidIn t) (t / 2 ^ 1 % 2) (omega arith))
+  where
+    go : (x y : ℕ) → y < 2 → eqb ((x * 2 + y) * 2 ^ 1) (p * 4) ≡ (eqb x p && eqb y 0)
+    go x y g =
+        both-tests ((x * 2 + y) * 2 ^ 1) (p * 4) x p y 0 (λ h k. omega arith) (λ h. omega arith)
+        (λ h. let e : x ≡ p = omega arith in omega arith)
+
+pub test-held : (t : ℕ) → isMasked 1 1 t ≡ isHeld t
+test-held t = rw (and-mask t 1) (same-test (t % 2 ^ 1) 1 (t / 2 ^ 0 % 2) 1 (λ h. omega arith) (λ h. omega arith))
+
+pub test-global : (t : ℕ) → isMasked 2 2 t ≡ isGlobal t
+test-global t = rw (and-high t 1 1) (same-test (t / 2 ^ 1 % 2 ^ 1 * 2 ^ 1) 2 (t / 2 ^ 1 % 2) 1 (λ h. omega arith) (λ h. omega arith))
+
+pub test-space : (p t : ℕ) → isMasked 0x3FFC (p * 4) t ≡ eqb (pcidIn t) p
+test-space p t = rw (and-high t 12 2) (same-test (pcidIn t * 2 ^ 2) (p * 4) (pcidIn t) p (λ h. omega arith) (λ h. omega arith))
+
+-- ---- a page number, and a mask below it
+module _ (mask t : ℕ) (h : mask < 2 ^ 14) where
+  page-and : bitAnd t (0x3FFFFFFFFC000 + mask) ≡ pageIn t * 2 ^ 14 + bitAnd (t % 2 ^ 14) mask
+  page-and =
+      ap (λ (x : ℕ). bitAnd x (0x3FFFFFFFFC000 + mask)) (sym (split t 14))
+      ∙ and-block 14 (t / 2 ^ 14) (2 ^ 36 - 1) (t % 2 ^ 14) mask (mod-lt t (pow-pos 14)) h
+      ∙ ap (λ (x : ℕ). x * 2 ^ 14 + bitAnd (t % 2 ^ 14) mask) (and-mask (t / 2 ^ 14) 36)
+
+  below-and : bitAnd t mask ≡ bitAnd (t % 2 ^ 14) mask
+  below-and =
+      ap (λ (x : ℕ). bitAnd x mask) (sym (split t 14))
+      ∙ simp (and-zero-r, zero-mul, zero-add) at (and-block 14 (t / 2 ^ 14) 0 (t % 2 ^ 14) mask (mod-lt t (pow-pos 14)) h)
+
+  pub test-page : (n want : ℕ) → want < 2 ^ 14 → isMasked (0x3FFFFFFFFC000 + mask) (n * 0x4000 + want) t ≡ (eqb (pageIn t) n && isMasked mask want t)
+  test-page n want g =
+      let l : bitAnd (t % 2 ^ 14) mask ≤ mask = and-le-r (t % 2 ^ 14) mask in
+      rw (page-and, below-and)
+      (both-tests (pageIn t * 2 ^ 14 + bitAnd (t % 2 ^ 14) mask) (n * 0x4000 + want) (pageIn t) n (bitAnd (t % 2 ^ 14) mask) want
+      (λ d e. omega arith) (λ d. omega arith) (λ d. omega arith))
