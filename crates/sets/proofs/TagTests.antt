@@ -11,6 +11,7 @@ use lib.Bits.{bitAnd, and-zero-r, and-mask, and-high, and-block, and-le-r}
 use borrow.Author.Tests.{eq-eqb, ne-eqb, eqb-true, eqb-false}
 use Rattle.rules.specs.Image.{isHeld, isGlobal, pcidIn, pageIn}
 use Rattle.rules.specs.Buffer.{others}
+use Rattle.words.proofs.Masks.{and-split, and-below}
 use Rattle.sets.specs.Ways.{isMasked}
 
 -- ---- an equation that holds with another, or with another two
@@ -69,19 +70,11 @@ test-space p t = rw (and-high t 12 2) (same-test (pcidIn t * 2 ^ 2) (p * 4) (pci
 -- ---- a page number, and a mask below it
 module _ (mask t : ℕ) (h : mask < 2 ^ 14) where
   page-and : bitAnd t (0x3FFFFFFFFC000 + mask) ≡ pageIn t * 2 ^ 14 + bitAnd (t % 2 ^ 14) mask
-  page-and =
-      ap (λ (x : ℕ). bitAnd x (0x3FFFFFFFFC000 + mask)) (sym (split t 14))
-      ∙ and-block 14 (t / 2 ^ 14) (2 ^ 36 - 1) (t % 2 ^ 14) mask (mod-lt t (pow-pos 14)) h
-      ∙ ap (λ (x : ℕ). x * 2 ^ 14 + bitAnd (t % 2 ^ 14) mask) (and-mask (t / 2 ^ 14) 36)
-
-  below-and : bitAnd t mask ≡ bitAnd (t % 2 ^ 14) mask
-  below-and =
-      ap (λ (x : ℕ). bitAnd x mask) (sym (split t 14))
-      ∙ simp (and-zero-r, zero-mul, zero-add) at (and-block 14 (t / 2 ^ 14) 0 (t % 2 ^ 14) mask (mod-lt t (pow-pos 14)) h)
+  page-and = and-split 14 t mask h (2 ^ 36 - 1) ∙ ap (λ (x : ℕ). x * 2 ^ 14 + bitAnd (t % 2 ^ 14) mask) (and-mask (t / 2 ^ 14) 36)
 
   pub test-page : (n want : ℕ) → want < 2 ^ 14 → isMasked (0x3FFFFFFFFC000 + mask) (n * 0x4000 + want) t ≡ (eqb (pageIn t) n && isMasked mask want t)
   test-page n want g =
       let l : bitAnd (t % 2 ^ 14) mask ≤ mask = and-le-r (t % 2 ^ 14) mask in
-      rw (page-and, below-and)
+      rw (page-and, and-below 14 t mask h)
       (both-tests (pageIn t * 2 ^ 14 + bitAnd (t % 2 ^ 14) mask) (n * 0x4000 + want) (pageIn t) n (bitAnd (t % 2 ^ 14) mask) want
       (λ d e. omega arith) (λ d. omega arith) (λ d. omega arith))

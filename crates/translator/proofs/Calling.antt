@@ -22,7 +22,7 @@ use Rattle.rules.proofs.WordLaws.{zero-tail}
 use Rattle.rules.proofs.ImageLaws.{Sound, cr3-bytes, flags-bytes, decode-encode}
 use Rattle.rules.proofs.PlaceLaws.{IsImage, image-of, is-encoded, flags-at, cr3-at}
 use Rattle.drops.specs.Drops.{droppedIn, every, notGlobal, ofSpace, ofSpaceAt}
-use Rattle.translator.specs.Contract.{IsSpace, Leaves}
+use Rattle.translator.specs.Contract.{Leaves}
 use Rattle.refusals.proofs.Checks.{or-left, or-right, fit-long, fit-tail}
 
 -- ---- clear
@@ -236,16 +236,6 @@ module _ (v n f : ℕ) (b b₁ : List ℕ) (was : IsImage b) (h : n ≡ refusal 
       let r : decode b₁ ≡ moded = ap decode moded-bytes ∙ decode-encode moded moded-sound in
       does (writeMode v) b b₂ n (dropped (λ i u. not (sameMode v (decode b .flags))) moded) (λ mem. refl) (λ mem. refl) h z
       (rw (flags-at b, ← old, ← e, t) (d ∙ ap (λ (s : Image). encode (dropped every s)) r))
-
--- ---- the current address space
-pub spaced : (b : List ℕ) (f r : ℕ) (k : Bool) → f ≡ wordAt b 8 → r ≡ wordAt b 16 → k ≡ isOn 3 f → k ≡ true
-    → IsSpace b (r % 4096)
-spaced b f r k hf hr hk t =
-    let e : r / 1 % 4096 ≡ r % 4096 = omega arith in
-    record { current = rw (flags-at b, cr3-at b, ← hf, ← hr, ← hk, t, e); low = omega arith }
-
-pub spaceless : (b : List ℕ) (f : ℕ) (k : Bool) → f ≡ wordAt b 8 → k ≡ isOn 3 f → k ≡ false → IsSpace b 0
-spaceless b f k hf hk t = record { current = rw (flags-at b, ← hf, ← hk, t); low = omega arith }
 
 -- ---- same_mode: flag by flag
 pub same-flag : (k v f : ℕ) (s a b : Bool) → s ≡ isSame a b → a ≡ isOn k v → b ≡ isOn k f → s ≡ isSame (isOn k v) (isOn k f)

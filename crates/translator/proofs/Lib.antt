@@ -1,4 +1,4 @@
 pub mod Calling
-pub mod Numbers
+pub mod Pages
 pub mod Translating
 pub mod Unique

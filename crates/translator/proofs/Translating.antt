@@ -37,10 +37,11 @@ use Rattle.buffer.specs.Look.{hitOf, Looks}
 use Rattle.buffer.specs.Fill.{filledAt}
 use Rattle.drops.specs.Drops.{droppedIn}
 use Rattle.drops.proofs.DropLaws.{image-dropped, says-dropped}
-use Rattle.translator.specs.Contract.{IsSpace, Translates, Usable, Gives, missed, Fits, Finishes}
+use Rattle.numbers.specs.Needs.{IsSpace}
+use Rattle.translator.specs.Contract.{Translates, Usable, Gives, missed, Fits, Finishes}
 use Rattle.refusals.proofs.Checks.{fit-wide, fit-narrow}
 use Rattle.translator.proofs.Calling.{fits, call-image}
-use Rattle.translator.proofs.Numbers.{length-in}
+use Rattle.translator.proofs.Pages.{length-in}
 
 -- ---- what a walk goes by
 pub over-root : (b : List ℕ) (w : ℕ) → Usable b → w ≡ wordAt b 0 → 12 ≤ w

@@ -1,10 +1,8 @@
 -- What the calls leave, as the rules' call says it.
 use mathlib.Core.Path.{_≡_}
 use mathlib.Core.List.{List}
-use Prim.Native.Nat.{ℕ, _+_, _*_, _^_, _≤_, _<_}
-use mathlib.Core.Bool.{Bool, _&&_, _||_}
-use Rattle.rules.specs.Bits.{one}
-use Rattle.rules.specs.Image.{Image, encode, decode, control, pcid, wp}
+use Prim.Native.Nat.{ℕ, _^_, _≤_, _<_}
+use Rattle.rules.specs.Image.{Image, encode, decode, control}
 use Rattle.rules.specs.Memory.{Memory}
 use Rattle.rules.specs.Walk.{walk}
 use Rattle.rules.specs.Buffer.{filled}
@@ -21,11 +19,6 @@ use Rattle.rules.proofs.PlaceLaws.{IsImage}
 -- a call that is lent no guest memory, whatever guest memory there is
 pub record Leaves (q : Request) (b b′ : List ℕ) (r : Answer) : Type 0 where
   pub outcome : (mem : Memory) → _≡_ {A = Outcome} (record { answer = r; image = b′; memory = mem }) (call b mem q)
-
--- the image's current address space, one of 4,096
-pub record IsSpace (b : List ℕ) (p : ℕ) : Type 0 where
-  pub current : p ≡ pcid (decode b)
-  pub low : p < 4096
 
 -- what translate leaves
 pub record Translates (q : Request) (b b′ : List ℕ) (mem mem′ : Memory) (r : Answer) : Type 0 where
@@ -62,10 +55,3 @@ Fits (Fault cause level n) = Unit {0}
 pub record Finishes (b b′ : List ℕ) (k : Access) (a : ℕ) (f : Found) (r : Answer) : Type 0 where
   pub image : b′ ≡ encode (filled (decode b) a f)
   pub answer : (c : Control) → r ≡ answerOf c k a f
-
--- the bits of a held page's datum that an access needs: writable, user, executable, and dirty for a write
-abbrev pub neededFrom : Bool → Access → ℕ
-neededFrom protect k = one (k .write) * 8 + (one (k .fetch) * 4 + (one (k .user) * 2 + one (k .write && (k .user || protect))))
-
-abbrev pub neededOf : ℕ → Access → ℕ
-neededOf flags k = neededFrom (wp flags) k

@@ -4,7 +4,6 @@ ghost use lib.ListN.{length, replicate};
 ghost use Rattle.rules.specs.Refusals.{start as startOf, invlpg as invlpgOf, invpcid as invpcidOf, writeCr3, writeMode};
 ghost use Rattle.rules.specs.Calls.{isSame, sameMode};
 ghost use Rattle.translator.specs.Contract.{Leaves};
-use crate::parts;
 use rules::Answer;
 
 // Every byte is zero.
@@ -40,7 +39,7 @@ pub fn invlpg(image: &mut [u8], a: u64) -> Answer
         return Answer::Refused { number };
     }
     if refusals::is_canonical(a) {
-        let space = parts::pcid_of(image);
+        let space = numbers::pcid_of(image);
         drops::drop_matches(image, a, space);
         return Answer::Done;
     }
@@ -83,7 +82,7 @@ pub fn write_cr3(image: &mut [u8], value: u64) -> Answer
     if words::is_on(63, value) {
         return Answer::Done;
     }
-    let space = parts::pcid_of(image);
+    let space = numbers::pcid_of(image);
     drops::drop_others(image, space);
     Answer::Done
 }

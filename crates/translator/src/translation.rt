@@ -9,8 +9,8 @@ ghost use Rattle.rules.specs.Sizes.{Is};
 ghost use Rattle.rules.specs.declared.Found.the-variants.{Page};
 ghost use Rattle.rules.specs.Refusals.{translate as translateOf};
 ghost use Rattle.rules.proofs.PlaceLaws.{IsImage};
-ghost use Rattle.translator.specs.Contract.{IsSpace, Translates, Usable, Gives, missed as missedOf, Fits, Finishes};
-use crate::parts;
+ghost use Rattle.numbers.specs.Needs.{IsSpace};
+ghost use Rattle.translator.specs.Contract.{Translates, Usable, Gives, missed as missedOf, Fits, Finishes};
 use buffer::look;
 use buffer::look::Place;
 use rules::Access;
@@ -52,8 +52,8 @@ fn keep(
     let number = size::page_number(z, a);
     let set = size::set_of(z, number) as usize;
     let shared = words::is_on(2, words::read_word(image, 8)) & global;
-    let tag = parts::tag_of(shared, space, number);
-    buffer::fill::fill(image, set, tag, parts::datum_of(r, dirty, base));
+    let tag = numbers::tag_of(shared, space, number);
+    buffer::fill::fill(image, set, tag, numbers::datum_of(r, dirty, base));
 }
 
 // What a walk found is answered; a page is kept as well.
@@ -77,7 +77,7 @@ fn finish(image: &mut [u8], space: u64, k: Access, a: u64, f: Found) -> Answer
             Answer::Address { value, size, read }
         }
         Found::Fault { cause, level, read } => {
-            let code = parts::code_of(k, cause);
+            let code = numbers::code_of(k, cause);
             Answer::PageFault {
                 cause,
                 level,
@@ -93,7 +93,7 @@ fn missed(image: &mut [u8], mem: &mut [u8], space: u64, kind: u64, a: u64) -> An
     requires { ⌜ Usable (now image) × ((length (now mem) % 8 ≡ 0) × (IsSpace (now image) space × (kind ≤ 5))) ⌝ }
     ensures { λ r. ⌜ Gives (missedOf (decode (now (image .entry))) (now (mem .entry)) (accessOf kind) a) (now (image .exit)) (now (mem .exit)) r ⌝ }
 {
-    let k = parts::access_of(kind);
+    let k = numbers::access_of(kind);
     let c = control_of(image, space);
     let f = walk::walk(mem, c, k, a);
     finish(image, space, k, a, f)
@@ -104,12 +104,12 @@ fn paged(image: &mut [u8], mem: &mut [u8], kind: u64, a: u64) -> Answer
     requires { ⌜ Usable (now image) × ((length (now mem) % 8 ≡ 0) × (kind ≤ 5)) ⌝ }
     ensures { λ r. ⌜ Gives (looked (decode (now (image .entry))) (now (mem .entry)) (accessOf kind) a (find (decode (now (image .entry))) a)) (now (image .exit)) (now (mem .exit)) r ⌝ }
 {
-    let space = parts::pcid_of(image);
+    let space = numbers::pcid_of(image);
     match look::look(image, a, space) {
         Place::At(i, size) => {
             let d = words::read_word(image, 40 + i * 16);
-            if parts::serves(words::read_word(image, 8), kind, d) {
-                let value = parts::hit_address(d, a, size);
+            if numbers::serves(words::read_word(image, 8), kind, d) {
+                let value = numbers::hit_address(d, a, size);
                 return Answer::Address {
                     value,
                     size,

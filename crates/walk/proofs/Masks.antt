@@ -1,6 +1,5 @@
--- What the code's conjunctions and masks say in the rules' terms: rights over entries, the reserved bits, the rights that an access needs.
--- A conjunction with a flag at bit k above a smaller mask is that flag's bit and the conjunction with the smaller mask (and-flag), so a mask of
--- flags is taken apart flag by flag; an identity of Booleans that is left is computed over all its values (same).
+-- What the code's conjunctions and masks say in the rules' terms: rights over entries, the reserved bits, the rights that an access needs. A mask is
+-- taken apart flag by flag, and what is left is an identity of Booleans.
 use Prim.Native.Nat.{ℕ, zero, suc, _+_, _-_, _*_, _/_, _%_, _^_, _≤_, _<_}
 use mathlib.Core.Path.{_≡_, refl, ap, ap₂, sym, _∙_}
 use mathlib.Core.Bool.{Bool, true, false, _&&_, _||_, not, Bool·beq, and-eq-true-iff}
@@ -16,29 +15,8 @@ use Rattle.rules.specs.Entries.{everything, also, allows}
 use Rattle.rules.specs.declared.Control.{Control}
 use Rattle.rules.specs.declared.Access.{Access}
 use Rattle.rules.proofs.BitLaws.{bit-low, one-le, flag-back, odd-one, on-one}
+use Rattle.words.proofs.Masks.{same, and-flag}
 use Rattle.walk.specs.Packed.{rightsOf, andIn, badOf, needOf, askOf, isAllowed, isWrite}
-
--- ---- an identity of Booleans, computed
-abbrev pub Fun : ℕ → Type 0
-Fun zero = Bool
-Fun (suc n) = Bool → Fun n
-
-abbrev pub Same : (n : ℕ) → Fun n → Fun n → Type 0
-Same zero p q = p ≡ q
-Same (suc n) f g = (b : Bool) → Same n (f b) (g b)
-
-abbrev pub agree : (n : ℕ) → Fun n → Fun n → Bool
-agree zero p q = Bool·beq p q
-agree (suc n) f g = agree n (f true) (g true) && agree n (f false) (g false)
-
-pub same : (n : ℕ) (f g : Fun n) → agree n f g ≡ true → Same n f g
-same zero true true h = refl
-same zero true false h = sym h
-same zero false true h = h
-same zero false false h = refl
-same (suc n) f g h =
-    let (t, u) = and-eq-true-iff (agree n (f true) (g true)) (agree n (f false) (g false)) .0 h in
-    elim [ true ↦ same n (f true) (g true) t | false ↦ same n (f false) (g false) u ]
 
 -- ---- rights
 and-on : (k x y : ℕ) → isOn k (bitAnd x y) ≡ (isOn k x && isOn k y)
@@ -60,21 +38,6 @@ rights-and s e = rw (and-on 1 s _, and-on 2 s _, and-on 63 s _, left-so 1 e (ome
 
 pub rights-all : rightsOf 0xFFFFFFFFFFFFFFFF ≡ everything
 rights-all = refl
-
--- ---- a conjunction, flag by flag
-pub and-one : (x : ℕ) (b : Bool) → bitAnd x (one b) ≡ one (b && eqb (x % 2) 1)
-and-one x true = and-mask x 1 ∙ odd-one (x % 2) (omega arith)
-and-one x false = and-zero-r x
-
-module _ (k x low : ℕ) (h : low < 2 ^ k) where
-  and-split : (q : ℕ) → bitAnd x (q * 2 ^ k + low) ≡ bitAnd (x / 2 ^ k) q * 2 ^ k + bitAnd (x % 2 ^ k) low
-  and-split q =
-      ap (λ (z : ℕ). bitAnd z (q * 2 ^ k + low)) (sym (split x k)) ∙ and-block k (x / 2 ^ k) q (x % 2 ^ k) low (mod-lt x (pow-pos k)) h
-
-  pub and-flag : (b : Bool) → bitAnd x (one b * 2 ^ k + low) ≡ one (b && isOn k x) * 2 ^ k + bitAnd x low
-  and-flag b =
-      let z : bitAnd x low ≡ bitAnd (x % 2 ^ k) low = simp (zero-mul, zero-add, and-zero-r) at (and-split 0) in
-      rw (and-split (one b), and-one (x / 2 ^ k) b, z)
 
 -- ---- reserved bits
 zero-test : (b : Bool) (p : ℕ) → eqb (one b * 2 ^ 63 + p) 0 ≡ not (not (eqb p 0) || b)

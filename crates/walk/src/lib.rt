@@ -5,7 +5,7 @@ ghost use Prim.Native.Nat.{_+_, _*_, _/_, _%_, _^_, _≤_, _<_};
 ghost use lib.Dec.{eqb};
 ghost use lib.Bits.{bitAnd};
 ghost use lib.ListN.{length};
-ghost use Rattle.rules.specs.Bits.{part, one as oneOf};
+ghost use Rattle.rules.specs.Bits.{part};
 ghost use Rattle.rules.specs.Memory.{entryAt, added};
 ghost use Rattle.rules.specs.Walk.{dirtied, walk as walkOf};
 ghost use Rattle.walk.specs.Packed.{Ready, andIn, badOf, askOf, isAllowed, isWrite, packed, AtLeaf, isUnfit, AtPage, levelIn, unpackOf, Down, Tells};
@@ -15,7 +15,10 @@ use rules::Control;
 use rules::Found;
 use rules::Rights;
 
-// The entry at a place, or all ones.
+// What an entry outside memory reads as.
+const OUTSIDE: u64 = 0xFFFF_FFFF_FFFF_FFFF;
+
+// The entry at a place.
 fn entry(mem: &[u8], at: usize) -> u64
     requires { ⌜ (at % 8 ≡ 0) × (length (now mem) % 8 ≡ 0) ⌝ }
     ensures { λ r. ⌜ r ≡ entryAt (now (mem .entry)) at ⌝ }
@@ -23,7 +26,7 @@ fn entry(mem: &[u8], at: usize) -> u64
     if at < mem.len() {
         words::read_word(mem, at)
     } else {
-        0xFFFF_FFFF_FFFF_FFFF
+        OUTSIDE
     }
 }
 
@@ -200,25 +203,20 @@ fn unpack(n: u64) -> Found
     }
 }
 
-fn one(b: bool) -> u64
-    ensures { λ r. ⌜ (r ≡ oneOf b) × (r < 2) ⌝ }
-{
-    if b { 1 } else { 0 }
-}
-
 fn bad_of(c: Control) -> u64
     requires { ⌜ c .width ≤ 52 ⌝ }
     ensures { λ r. ⌜ r ≡ badOf c ⌝ }
 {
-    one(!words::is_on(4, c.flags)) * 0x8000_0000_0000_0000 + (0x10_0000_0000_0000 - (1 << c.width))
+    words::one(!words::is_on(4, c.flags)) * 0x8000_0000_0000_0000
+        + (0x10_0000_0000_0000 - (1 << c.width))
 }
 
 fn ask_of(c: Control, k: Access) -> u64
     ensures { λ r. ⌜ r ≡ askOf c k ⌝ }
 {
-    one(k.fetch) * 0x8000_0000_0000_0000
-        + (one(k.user) * 4 + one(k.write & (k.user | words::is_on(1, c.flags))) * 2)
-        + one(k.write)
+    words::one(k.fetch) * 0x8000_0000_0000_0000
+        + (words::one(k.user) * 4 + words::one(k.write & (k.user | words::is_on(1, c.flags))) * 2)
+        + words::one(k.write)
 }
 
 // The walk of an address: what it finds, with the accessed and dirty bits added to memory.

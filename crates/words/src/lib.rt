@@ -2,7 +2,7 @@
 ghost use mathlib.Core.Path.{_≡_};
 ghost use Prim.Native.Nat.{_+_, _≤_, _<_};
 ghost use lib.ListN.{length};
-ghost use Rattle.rules.specs.Bits.{isOn, part as partOf, wordAt, wordPut};
+ghost use Rattle.rules.specs.Bits.{isOn, one as oneOf, part as partOf, wordAt, wordPut};
 ghost use Rattle.rules.specs.Memory.{added};
 ghost use Rattle.words.specs.Eight.{eightAt};
 
@@ -57,6 +57,13 @@ pub fn add_bit(s: &mut [u8], at: usize, k: u8)
     ensures { λ _. ⌜ now (s .exit) ≡ added k at (now (s .entry)) ⌝ }
 {
     s[at] = s[at] | (1u8 << k);
+}
+
+// A flag as a number.
+pub fn one(b: bool) -> u64
+    ensures { λ r. ⌜ (r ≡ oneOf b) × (r < 2) ⌝ }
+{
+    if b { 1 } else { 0 }
 }
 
 // Whether bit k is set.

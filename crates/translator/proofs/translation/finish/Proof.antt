@@ -1,5 +1,5 @@
 -- A page's base and offset do not overflow; a fault keeps its cause and level, and the bytes, which are an image's.
-use Rattle.translator.proofs.Numbers.{page-is, page-base, page-pos, page-sum}
+use Rattle.translator.proofs.Pages.{page-is, page-base, page-pos, page-sum}
 use Rattle.translator.proofs.Translating.{finish-page, finish-fault}
 use borrow.Author.Needs.{needs}
 use Rattle.translator.proofs.translation.finish.Statement.{statement}

@@ -1,8 +1,8 @@
 -- One way for each cause.
-use Rattle.translator.proofs.Numbers.{not-present, reserved, protection}
+use Rattle.numbers.proofs.Laws.{not-present, reserved, protection}
 use borrow.Author.Needs.{needs}
-use Rattle.translator.proofs.parts.code_of.Statement.{statement}
-use Rattle.translator.proofs.parts.code_of.Tie as tie
+use Rattle.numbers.proofs.code_of.Statement.{statement}
+use Rattle.numbers.proofs.code_of.Tie as tie
 
 one-requires : tie.Need-one-requires
 one-requires c κs = search needs

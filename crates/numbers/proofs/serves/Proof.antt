@@ -1,8 +1,8 @@
 -- The bits that are needed are among the datum's.
-use Rattle.translator.proofs.Numbers.{serves-is}
+use Rattle.numbers.proofs.Laws.{serves-is}
 use borrow.Author.Needs.{needs}
-use Rattle.translator.proofs.parts.serves.Statement.{statement}
-use Rattle.translator.proofs.parts.serves.Tie as tie
+use Rattle.numbers.proofs.serves.Statement.{statement}
+use Rattle.numbers.proofs.serves.Tie as tie
 
 needed-requires : tie.Need-needed-requires
 needed-requires c κs = search needs

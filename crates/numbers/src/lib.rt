@@ -1,14 +1,13 @@
-// The numbers of a translation: the access kind, the address space, a slot's two words, whether a held page serves and its address, the code of a fault.
+// The numbers of a call: the access kind, the address space, a slot's two words, whether a held page serves and its address, the code of a fault.
 ghost use mathlib.Core.Path.{_≡_};
 ghost use lib.ListN.{length};
 ghost use Prim.Native.Nat.{_+_, _*_, _/_, _%_, _^_, _≤_, _<_};
-ghost use Rattle.rules.specs.Bits.{one as oneOf};
 ghost use Rattle.rules.specs.Image.{tagOf, datumOf};
 ghost use Rattle.rules.specs.Buffer.{serves as servesOf};
 ghost use Rattle.rules.specs.Answers.{code as codeOf};
 ghost use Rattle.rules.specs.Calls.{accessOf};
 ghost use Rattle.rules.specs.declared.Control.{Control as ControlOf};
-ghost use Rattle.translator.specs.Contract.{IsSpace, neededOf};
+ghost use Rattle.numbers.specs.Needs.{IsSpace, neededOf};
 use rules::Access;
 use rules::Cause;
 use rules::Rights;
@@ -35,24 +34,22 @@ pub fn pcid_of(image: &[u8]) -> u64
     0
 }
 
-fn one(b: bool) -> u64
-    ensures { λ r. ⌜ (r ≡ oneOf b) × (r < 2) ⌝ }
-{
-    if b { 1 } else { 0 }
-}
-
 pub fn tag_of(global: bool, space: u64, page: u64) -> u64
     requires { ⌜ (space < 4096) × (page < 2 ^ 36) ⌝ }
     ensures { λ r. ⌜ r ≡ tagOf global space page ⌝ }
 {
-    1 + 2 * one(global) + 4 * space + 0x4000 * page
+    1 + 2 * words::one(global) + 4 * space + 0x4000 * page
 }
 
 pub fn datum_of(r: Rights, dirty: bool, base: u64) -> u64
     requires { ⌜ base < 2 ^ 52 ⌝ }
     ensures { λ d. ⌜ d ≡ datumOf r dirty base ⌝ }
 {
-    one(r.writable) + 2 * one(r.user) + 4 * one(r.executable) + 8 * one(dirty) + base
+    words::one(r.writable)
+        + 2 * words::one(r.user)
+        + 4 * words::one(r.executable)
+        + 8 * words::one(dirty)
+        + base
 }
 
 // What a held page must have for an access, as bits of its datum. A kind has four bits of the number; write protect adds one of them, writable, to the
@@ -85,7 +82,7 @@ pub fn hit_address(d: u64, a: u64, length: u64) -> u64
 pub fn code_of(k: Access, cause: Cause) -> u64
     ensures { λ r. ⌜ ((c : ControlOf) → r ≡ codeOf c k cause) ⌝ }
 {
-    let asked = 2 * one(k.write) + 4 * one(k.user) + 16 * one(k.fetch);
+    let asked = 2 * words::one(k.write) + 4 * words::one(k.user) + 16 * words::one(k.fetch);
     match cause {
         Cause::NotPresent => asked,
         Cause::Reserved => 9 + asked,

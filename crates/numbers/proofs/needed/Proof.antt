@@ -1,8 +1,8 @@
 -- Four bits for each of six kinds.
-use Rattle.translator.proofs.Numbers.{needed-is}
+use Rattle.numbers.proofs.Laws.{needed-is}
 use borrow.Author.Needs.{needs}
-use Rattle.translator.proofs.parts.needed.Statement.{statement}
-use Rattle.translator.proofs.parts.needed.Tie as tie
+use Rattle.numbers.proofs.needed.Statement.{statement}
+use Rattle.numbers.proofs.needed.Tie as tie
 
 mul-result : tie.Need-mul-result
 mul-result c = search needs

@@ -1,29 +1,25 @@
--- The numbers of a translation, from what its functions' calls tell.
+-- What each function computes is the rules' number, from what its calls tell.
 use Prim.Native.Nat.{ℕ, zero, suc, _+_, _*_, _/_, _%_, _^_, _≤_, _<_}
-use mathlib.Core.Path.{_≡_, refl, ap, sym, _∙_, subst}
+use mathlib.Core.Path.{_≡_, refl, ap, _∙_}
 use mathlib.Core.Bool.{Bool, true, false, _&&_, _||_, not}
+use mathlib.Core.List.{List}
 use native.Mathlib.Omega.{arith}
 use native.Mathlib.Nat.{mod-lt, div-add-mod}
 use lib.Dec.{eqb, leb}
 use lib.Bits.{bitAnd}
-use Rattle.rules.specs.Bits.{isOn, one}
-use Rattle.rules.specs.Sizes.{Is, is-small, is-middle, is-large, sizeAt}
+use Rattle.rules.specs.Bits.{isOn, one, wordAt}
 use Rattle.rules.specs.Image.{wp}
 use Rattle.rules.specs.Buffer.{serves}
 use Rattle.rules.specs.Answers.{code}
 use Rattle.rules.specs.Calls.{accessOf}
-use Rattle.rules.specs.declared.Size.{Size}
 use Rattle.rules.specs.declared.Control.{Control}
 use Rattle.rules.specs.declared.Access.{Access}
-use Rattle.rules.specs.declared.Rights.{Rights}
 use Rattle.rules.specs.declared.Cause.{Cause}
 use Rattle.rules.specs.declared.Cause.the-variants.{NotPresent, Reserved, Protection}
-use Rattle.rules.specs.declared.Found.{Found}
-use Rattle.rules.specs.declared.Found.the-variants.{Page}
 use Rattle.rules.proofs.BitLaws.{one-le, on-one}
-use Rattle.rules.proofs.SizeLaws.{size-at}
-use Rattle.walk.proofs.Masks.{same, and-one, and-flag}
-use Rattle.translator.specs.Contract.{Fits, neededFrom, neededOf}
+use Rattle.rules.proofs.PlaceLaws.{flags-at, cr3-at}
+use Rattle.words.proofs.Masks.{same, and-one, and-flag}
+use Rattle.numbers.specs.Needs.{IsSpace, neededFrom, neededOf}
 
 -- ---- the access, by its kind
 pub access-is : (k : ℕ) → k ≤ 5
@@ -35,6 +31,16 @@ access-is (suc (suc (suc zero))) h = refl
 access-is (suc (suc (suc (suc zero)))) h = refl
 access-is (suc (suc (suc (suc (suc zero))))) h = refl
 access-is (suc (suc (suc (suc (suc (suc k)))))) h = absurd (omega arith)
+
+-- ---- the current address space
+pub spaced : (b : List ℕ) (f r : ℕ) (k : Bool) → f ≡ wordAt b 8 → r ≡ wordAt b 16 → k ≡ isOn 3 f → k ≡ true
+    → IsSpace b (r % 4096)
+spaced b f r k hf hr hk t =
+    let e : r / 1 % 4096 ≡ r % 4096 = omega arith in
+    record { current = rw (flags-at b, cr3-at b, ← hf, ← hr, ← hk, t, e); low = omega arith }
+
+pub spaceless : (b : List ℕ) (f : ℕ) (k : Bool) → f ≡ wordAt b 8 → k ≡ isOn 3 f → k ≡ false → IsSpace b 0
+spaceless b f k hf hk t = record { current = rw (flags-at b, ← hf, ← hk, t); low = omega arith }
 
 -- ---- rights: what an access needs is read off one number, and is a conjunction of the datum's bits
 needed-by : (p : Bool) (k : ℕ) → k ≤ 5 → (0x6B2480 + one p * 16) / 2 ^ (4 * k) % 16 ≡ neededFrom p (accessOf k)
@@ -98,28 +104,3 @@ reserved k cause w u x hw hu hx e c = rw (e, ← hw, ← hu, ← hx) (omega arit
 pub protection : (k : Access) (cause : Cause) (w u x : ℕ) → w ≡ one (k .write) → u ≡ one (k .user) → x ≡ one (k .fetch) → cause ≡ Protection
     → (c : Control) → 1 + (2 * w + 4 * u + 16 * x) ≡ code c k cause
 protection k cause w u x hw hu hx e c = rw (e, ← hw, ← hu, ← hx) (omega arith)
-
--- ---- the lengths of pages
-pub length-in : (z : Size) → Is z → (1 ≤ z .length) × (z .length ≤ 2 ^ 30)
-length-in z is-small = (omega arith, omega arith)
-length-in z is-middle = (omega arith, omega arith)
-length-in z is-large = (omega arith, omega arith)
-
-module _ (f : Found) (base level n : ℕ) (r : Rights) (g d : Bool) (z : Size) (fits : Fits f) (e : f ≡ Page base level r g d n) (size : z ≡ sizeAt level) where
-  page-fits : Fits (Page base level r g d n)
-  page-fits = subst Fits e fits
-
-  pub page-is : Is z
-  page-is = subst Is (sym size) (size-at level (page-fits .1 .0) (page-fits .1 .1))
-
-  pub page-base : base < 2 ^ 52
-  page-base = page-fits .0
-
-  page-length : (1 ≤ z .length) × (z .length ≤ 2 ^ 30)
-  page-length = length-in z page-is
-
-  pub page-pos : 0 < z .length
-  page-pos = page-length .0
-
-  pub page-sum : (a : ℕ) → base + a % z .length < 2 ^ 64
-  page-sum a = omega (arith, page-fits .0, page-length .1, mod-lt a (page-length .0))

@@ -1,8 +1,8 @@
 -- A base below 2^52 and an offset within the page do not overflow.
-use Rattle.translator.proofs.Numbers.{base-fits, sum-fits}
+use Rattle.numbers.proofs.Laws.{base-fits, sum-fits}
 use borrow.Author.Needs.{needs}
-use Rattle.translator.proofs.parts.hit_address.Statement.{statement}
-use Rattle.translator.proofs.parts.hit_address.Tie as tie
+use Rattle.numbers.proofs.hit_address.Statement.{statement}
+use Rattle.numbers.proofs.hit_address.Tie as tie
 
 div-result : tie.Need-div-result
 div-result c = search needs

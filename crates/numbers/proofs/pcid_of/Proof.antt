@@ -1,8 +1,8 @@
 -- The two ways through it: PCIDE on, and off.
-use Rattle.translator.proofs.Calling.{spaced, spaceless}
+use Rattle.numbers.proofs.Laws.{spaced, spaceless}
 use borrow.Author.Needs.{needs}
-use Rattle.translator.proofs.parts.pcid_of.Statement.{statement}
-use Rattle.translator.proofs.parts.pcid_of.Tie as tie
+use Rattle.numbers.proofs.pcid_of.Statement.{statement}
+use Rattle.numbers.proofs.pcid_of.Tie as tie
 
 read-word-requires : tie.Need-read-word-requires
 read-word-requires c κs = search needs
