@@ -1,8 +1,8 @@
 -- The ways through the trial program's functions: a line is counted as it was judged, and the image before a case is what three calls leave.
 use Prim.Native.Nat.{ℕ, _+_, _%_, _^_}
-use mathlib.Core.Path.{_≡_, ap, _∙_}
+use mathlib.Core.Path.{_≡_, refl, ap, _∙_}
 use mathlib.Core.Bool.{Bool, true, false}
-use mathlib.Core.List.{List, []}
+use mathlib.Core.List.{List, [], _∷_}
 use lib.ListN.{replicate}
 use Rattle.rules.specs.Bits.{wordPut}
 use Rattle.rules.specs.Refusals.{Request, start, writeCr3, writeMode}
@@ -10,7 +10,8 @@ use Rattle.rules.specs.Calls.{Outcome, call}
 use Rattle.rules.specs.declared.Answer.{Answer}
 use Rattle.translator.specs.Contract.{Leaves}
 use Rattle.trial.specs.declared.report.Tally.{Tally}
-use Rattle.trial.specs.Trial.{written, tables, ready, judged}
+use Rattle.rules.proofs.TrialGuest.{guest}
+use Rattle.trial.specs.Trial.{ready, judged}
 
 pub passes : (g : Bool) (t : Tally) (n : ℕ) → g ≡ true → n ≡ (t .passed + 1) % 2 ^ 64 → _≡_ {A = Tally} (record { passed = n; failed = t .failed }) (judged g t)
 passes g t n e h = rw (e, h)
@@ -33,10 +34,33 @@ readied b₁ b₂ b₃ a₁ a₂ a₃ h₁ h₂ h₃ =
     ∙ ap (λ (b : List ℕ). call (call b [] (writeCr3 0x1000) .image) [] (writeMode 23) .image) (left (start 40) (replicate 2048 0) b₁ a₁ h₁)
 
 -- ---- the guest before a case
-pub ten-words : (m₀ m₁ m₂ m₃ m₄ m₅ m₆ m₇ m₈ m₉ m₁₀ : List ℕ)
+-- words written one after the other, each at its place
+abbrev written : List ℕ → List (ℕ × ℕ) → List ℕ
+written m [] = m
+written m (w ∷ ws) = written (wordPut m (w .0) (w .1)) ws
+
+-- the guest's tables, as the paper lists their words; the rest is zero
+abbrev tables : List (ℕ × ℕ)
+tables =
+    (0x1000, 0x2007)
+    ∷ (0x2000, 0x3007)
+    ∷ (0x2008, 0x40000083)
+    ∷ (0x3000, 0x4007)
+    ∷ (0x3008, 0x600087)
+    ∷ (0x4000, 0x5003)
+    ∷ (0x4008, 0x5005)
+    ∷ (0x4010, 0x8000000000005007)
+    ∷ (0x4020, 0x10000005007)
+    ∷ (0x4028, 0x5107)
+    ∷ []
+
+same-guest : written (replicate 24576 0) tables ≡ guest
+same-guest = refl
+
+pub ten-words : (m₁ m₂ m₃ m₄ m₅ m₆ m₇ m₈ m₉ m₁₀ : List ℕ)
     → m₁₀ ≡ wordPut m₉ 0x4028 0x5107 → m₉ ≡ wordPut m₈ 0x4020 0x10000005007 → m₈ ≡ wordPut m₇ 0x4010 0x8000000000005007
     → m₇ ≡ wordPut m₆ 0x4008 0x5005 → m₆ ≡ wordPut m₅ 0x4000 0x5003 → m₅ ≡ wordPut m₄ 0x3008 0x600087
     → m₄ ≡ wordPut m₃ 0x3000 0x4007 → m₃ ≡ wordPut m₂ 0x2008 0x40000083 → m₂ ≡ wordPut m₁ 0x2000 0x3007
-    → m₁ ≡ wordPut m₀ 0x1000 0x2007
-    → m₁₀ ≡ written m₀ tables
-ten-words m₀ m₁ m₂ m₃ m₄ m₅ m₆ m₇ m₈ m₉ m₁₀ h₁₀ h₉ h₈ h₇ h₆ h₅ h₄ h₃ h₂ h₁ = rw (h₁₀, h₉, h₈, h₇, h₆, h₅, h₄, h₃, h₂, h₁)
+    → m₁ ≡ wordPut (replicate 24576 0) 0x1000 0x2007
+    → m₁₀ ≡ guest
+ten-words m₁ m₂ m₃ m₄ m₅ m₆ m₇ m₈ m₉ m₁₀ h₁₀ h₉ h₈ h₇ h₆ h₅ h₄ h₃ h₂ h₁ = rw (h₁₀, h₉, h₈, h₇, h₆, h₅, h₄, h₃, h₂, h₁) same-guest

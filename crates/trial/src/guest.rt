@@ -3,9 +3,10 @@ ghost use mathlib.Core.Path.{_≡_};
 ghost use Prim.Native.Nat.{_+_, _≤_};
 ghost use Rattle.rules.specs.Bits.{wordAt, wordPut};
 ghost use Rattle.rules.specs.Refusals.{translate as translateOf, writeCr3, writeMode};
-ghost use Rattle.trial.specs.Trial.{guest, ready, Came, CameWith};
+ghost use Rattle.rules.proofs.TrialGuest.{guest};
+ghost use Rattle.trial.specs.Trial.{ready, Came, CameWith};
 use crate::report;
-use crate::report::Outcome;
+use crate::report::Told;
 use translator::calls;
 use translator::translation;
 
@@ -61,20 +62,20 @@ pub fn word(mem: &[u8; 24576], at: usize) -> u64
     words::read_word(mem, at)
 }
 
-pub fn translate(image: &mut [u8; 2048], mem: &mut [u8; 24576], kind: u64, a: u64) -> Outcome
+pub fn translate(image: &mut [u8; 2048], mem: &mut [u8; 24576], kind: u64, a: u64) -> Told
     ensures { λ r. ⌜ CameWith (translateOf kind a) (now (image .entry)) (now (image .exit)) (now (mem .entry)) (now (mem .exit)) r ⌝ }
 {
-    report::outcome_of(translation::translate(image, mem, kind, a))
+    report::told_of(translation::translate(image, mem, kind, a))
 }
 
-pub fn write_cr3(image: &mut [u8; 2048], value: u64) -> Outcome
+pub fn write_cr3(image: &mut [u8; 2048], value: u64) -> Told
     ensures { λ r. ⌜ Came (writeCr3 value) (now (image .entry)) (now (image .exit)) r ⌝ }
 {
-    report::outcome_of(calls::write_cr3(image, value))
+    report::told_of(calls::write_cr3(image, value))
 }
 
-pub fn write_mode(image: &mut [u8; 2048], flags: u64) -> Outcome
+pub fn write_mode(image: &mut [u8; 2048], flags: u64) -> Told
     ensures { λ r. ⌜ Came (writeMode flags) (now (image .entry)) (now (image .exit)) r ⌝ }
 {
-    report::outcome_of(calls::write_mode(image, flags))
+    report::told_of(calls::write_mode(image, flags))
 }

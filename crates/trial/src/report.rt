@@ -1,11 +1,11 @@
 // What a call came to, and the lines that are written of it.
 ghost use mathlib.Core.Path.{_≡_};
 ghost use lib.Dec.{eqb};
-ghost use Rattle.trial.specs.Trial.{Tells, isSame, judged};
+ghost use Rattle.trial.specs.Trial.{Tells, areAlike, judged};
 use rules::Answer;
 
 // An answer as the paper's record has it, without the page size.
-pub struct Outcome {
+pub struct Told {
     // 0 address, 1 fault, 2 refused, 3 done.
     pub kind: u64,
     pub value: u64,
@@ -18,47 +18,47 @@ pub struct Tally {
     pub failed: u64,
 }
 
-pub fn address(value: u64, read: u64) -> Outcome
+pub fn address(value: u64, read: u64) -> Told
     ensures { λ r. ⌜ (r .kind ≡ 0) × ((r .value ≡ value) × (r .read ≡ read)) ⌝ }
 {
-    Outcome {
+    Told {
         kind: 0,
         value,
         read,
     }
 }
 
-pub fn fault(code: u64, read: u64) -> Outcome
+pub fn fault(code: u64, read: u64) -> Told
     ensures { λ r. ⌜ (r .kind ≡ 1) × ((r .value ≡ code) × (r .read ≡ read)) ⌝ }
 {
-    Outcome {
+    Told {
         kind: 1,
         value: code,
         read,
     }
 }
 
-pub fn refused(number: u64) -> Outcome
+pub fn refused(number: u64) -> Told
     ensures { λ r. ⌜ (r .kind ≡ 2) × ((r .value ≡ number) × (r .read ≡ 0)) ⌝ }
 {
-    Outcome {
+    Told {
         kind: 2,
         value: number,
         read: 0,
     }
 }
 
-pub fn done() -> Outcome
+pub fn done() -> Told
     ensures { λ r. ⌜ (r .kind ≡ 3) × ((r .value ≡ 0) × (r .read ≡ 0)) ⌝ }
 {
-    Outcome {
+    Told {
         kind: 3,
         value: 0,
         read: 0,
     }
 }
 
-pub fn outcome_of(answer: Answer) -> Outcome
+pub fn told_of(answer: Answer) -> Told
     ensures { λ r. ⌜ Tells answer r ⌝ }
 {
     match answer {
@@ -78,8 +78,8 @@ pub fn outcome_of(answer: Answer) -> Outcome
     }
 }
 
-fn is_same(a: Outcome, b: Outcome) -> bool
-    ensures { λ r. ⌜ r ≡ isSame a b ⌝ }
+fn are_alike(a: Told, b: Told) -> bool
+    ensures { λ r. ⌜ r ≡ areAlike a b ⌝ }
 {
     (a.kind == b.kind) & (a.value == b.value) & (a.read == b.read)
 }
@@ -105,7 +105,7 @@ fn write_kind(kind: u64) {
     write(b"refusal ");
 }
 
-fn write_outcome(o: Outcome) {
+fn write_told(o: Told) {
     if o.kind == 3 {
         write(b"done");
         return;
@@ -139,15 +139,15 @@ fn judge(t: Tally, good: bool) -> Tally
 }
 
 // A line on what a call came to.
-pub fn call(t: Tally, name: &[u8], expected: Outcome, came: Outcome) -> Tally
-    ensures { λ r. ⌜ r ≡ judged (isSame expected came) t ⌝ }
+pub fn call(t: Tally, name: &[u8], expected: Told, came: Told) -> Tally
+    ensures { λ r. ⌜ r ≡ judged (areAlike expected came) t ⌝ }
 {
     write(name);
     write(b": expected ");
-    write_outcome(expected);
+    write_told(expected);
     write(b"; came ");
-    write_outcome(came);
-    judge(t, is_same(expected, came))
+    write_told(came);
+    judge(t, are_alike(expected, came))
 }
 
 // A line on what a word of the guest's holds.
@@ -160,12 +160,4 @@ pub fn word(t: Tally, name: &[u8], expected: u64, came: u64) -> Tally
     write(b"; came ");
     write_number(came);
     judge(t, expected == came)
-}
-
-// The last line.
-pub fn total(t: Tally) {
-    io::print_decimal(1, t.passed);
-    write(b" passed, ");
-    io::print_decimal(1, t.failed);
-    write(b" failed\n");
 }

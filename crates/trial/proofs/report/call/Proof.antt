@@ -13,8 +13,8 @@ slice-aggregate-write c = search needs
 write-requires-2 : tie.Need-write-requires-2
 write-requires-2 c κs = search needs
 
-write-outcome-requires : tie.Need-write-outcome-requires
-write-outcome-requires c κs = search needs
+write-told-requires : tie.Need-write-told-requires
+write-told-requires c κs = search needs
 
 slice-aggregate-write-2 : tie.Need-slice-aggregate-write-2
 slice-aggregate-write-2 c = search needs
@@ -22,11 +22,11 @@ slice-aggregate-write-2 c = search needs
 write-requires-3 : tie.Need-write-requires-3
 write-requires-3 c κs = search needs
 
-write-outcome-requires-2 : tie.Need-write-outcome-requires-2
-write-outcome-requires-2 c κs = search needs
+write-told-requires-2 : tie.Need-write-told-requires-2
+write-told-requires-2 c κs = search needs
 
-is-same-requires : tie.Need-is-same-requires
-is-same-requires c κs = search needs
+are-alike-requires : tie.Need-are-alike-requires
+are-alike-requires c κs = search needs
 
 judge-requires : tie.Need-judge-requires
 judge-requires c κs = search needs
@@ -41,10 +41,10 @@ call-spec =
     write-requires
     slice-aggregate-write
     write-requires-2
-    write-outcome-requires
+    write-told-requires
     slice-aggregate-write-2
     write-requires-3
-    write-outcome-requires-2
-    is-same-requires
+    write-told-requires-2
+    are-alike-requires
     judge-requires
     returns)

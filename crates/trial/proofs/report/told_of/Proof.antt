@@ -1,7 +1,7 @@
 -- An answer's numbers are its record's. Of a fault, which also holds its cause, the variant that was met is put in by hand.
 use borrow.Author.Needs.{needs}
-use Rattle.trial.proofs.report.outcome_of.Statement.{statement}
-use Rattle.trial.proofs.report.outcome_of.Tie as tie
+use Rattle.trial.proofs.report.told_of.Statement.{statement}
+use Rattle.trial.proofs.report.told_of.Tie as tie
 
 enum-known-answer : tie.Need-enum-known-answer
 enum-known-answer c = search needs
@@ -41,8 +41,8 @@ returns-3 c = search needs
 returns-4 : tie.Need-returns-4
 returns-4 c = search needs
 
-pub outcome-of-spec : {M : Type 1} → statement M
-outcome-of-spec =
+pub told-of-spec : {M : Type 1} → statement M
+told-of-spec =
     tie.close
     (tie.spec
     enum-known-answer
