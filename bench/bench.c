@@ -52,36 +52,46 @@ static const struct door empty = {no_start, no_translate, no_start, no_invpcid, 
 
 enum name { START, TRANSLATE, INVLPG, INVPCID, WRITE_CR3, WRITE_MODE };
 
+/*
+ * What the buffer holds before the call: nothing; the page of 0x123, 0x212345 or 0x40000010; a page in each of the 100 slots,
+ * with those of 0x123 and 0x212345 in the last ways of their sets, or with none of the three, or all of them global.
+ */
+enum held { NOTHING, PAGE_4K, PAGE_2M, PAGE_1G, FULL, FULL_OF_OTHERS, FULL_OF_GLOBAL };
+
 struct operation {
     const char *title;
     enum name name;
     uint64_t numbers[3];
-    uint64_t held;   /* an address that is read first, so that its page is held; NOTHING_HELD: the buffer is empty */
+    enum held held;
     bool restored;   /* the image is put back before each call */
     unsigned offset; /* of the image from an alignment of 64 */
     struct pastrulow_answer expected;
 };
 
-#define NOTHING_HELD UINT64_MAX
 #define FAR_ADDRESS UINT64_C(0x00007FFFFFFFF000)
 
 static const struct operation operations[] = {
-    {"hit, 4 KiB", TRANSLATE, {0, 0x123, 0}, 0x123, false, 0, {0, 0x5123, 4096, 0}},
-    {"hit, 4 KiB, image not aligned", TRANSLATE, {0, 0x123, 0}, 0x123, false, 8, {0, 0x5123, 4096, 0}},
-    {"hit, 2 MiB", TRANSLATE, {0, 0x212345, 0}, 0x212345, false, 0, {0, 0x612345, 2097152, 0}},
-    {"hit, 1 GiB", TRANSLATE, {0, 0x40000010, 0}, 0x40000010, false, 0, {0, 0x40000010, 1073741824, 0}},
-    {"miss, 4 KiB: 4 levels and fill", TRANSLATE, {0, 0x123, 0}, NOTHING_HELD, true, 0, {0, 0x5123, 4096, 4}},
-    {"miss, 2 MiB: 3 levels and fill", TRANSLATE, {0, 0x212345, 0}, NOTHING_HELD, true, 0, {0, 0x612345, 2097152, 3}},
-    {"fault at level 4", TRANSLATE, {0, FAR_ADDRESS, 0}, NOTHING_HELD, false, 0, {1, 0, 0, 1}},
-    {"INVLPG of a page held", INVLPG, {0x123, 0, 0}, 0x123, true, 0, {3, 0, 0, 0}},
-    {"CR3 write, buffer empty", WRITE_CR3, {ROOT, 0, 0}, NOTHING_HELD, false, 0, {3, 0, 0, 0}},
-    {"mode write, nothing changes", WRITE_MODE, {FLAGS, 0, 0}, 0x123, false, 0, {3, 0, 0, 0}},
-    {"mode write, all dropped", WRITE_MODE, {FLAGS & ~4, 0, 0}, 0x123, true, 0, {3, 0, 0, 0}},
-    {"INVPCID type 0 of a page held", INVPCID, {0, 0, 0x123}, 0x123, true, 0, {3, 0, 0, 0}},
-    {"INVPCID type 1, one page held", INVPCID, {1, 0, 0}, 0x123, true, 0, {3, 0, 0, 0}},
-    {"INVPCID type 2, one page held", INVPCID, {2, 0, 0}, 0x123, true, 0, {3, 0, 0, 0}},
-    {"INVPCID type 3, one page held", INVPCID, {3, 0, 0}, 0x123, true, 0, {3, 0, 0, 0}},
-    {"start", START, {40, 0, 0}, NOTHING_HELD, false, 0, {3, 0, 0, 0}},
+    {"hit, 4 KiB", TRANSLATE, {0, 0x123, 0}, PAGE_4K, false, 0, {0, 0x5123, 4096, 0}},
+    {"hit, 4 KiB, image not aligned", TRANSLATE, {0, 0x123, 0}, PAGE_4K, false, 8, {0, 0x5123, 4096, 0}},
+    {"hit, 4 KiB, last way, all held", TRANSLATE, {0, 0x123, 0}, FULL, false, 0, {0, 0x5123, 4096, 0}},
+    {"hit, 2 MiB", TRANSLATE, {0, 0x212345, 0}, PAGE_2M, false, 0, {0, 0x612345, 2097152, 0}},
+    {"hit, 2 MiB, last way, all held", TRANSLATE, {0, 0x212345, 0}, FULL, false, 0, {0, 0x612345, 2097152, 0}},
+    {"hit, 1 GiB", TRANSLATE, {0, 0x40000010, 0}, PAGE_1G, false, 0, {0, 0x40000010, 1073741824, 0}},
+    {"miss, 4 KiB: 4 levels and fill", TRANSLATE, {0, 0x123, 0}, NOTHING, true, 0, {0, 0x5123, 4096, 4}},
+    {"miss, 4 KiB, all held: a victim", TRANSLATE, {0, 0x123, 0}, FULL_OF_OTHERS, true, 0, {0, 0x5123, 4096, 4}},
+    {"miss, 2 MiB: 3 levels and fill", TRANSLATE, {0, 0x212345, 0}, NOTHING, true, 0, {0, 0x612345, 2097152, 3}},
+    {"fault at level 4", TRANSLATE, {0, FAR_ADDRESS, 0}, NOTHING, false, 0, {1, 0, 0, 1}},
+    {"INVLPG of a page held", INVLPG, {0x123, 0, 0}, PAGE_4K, true, 0, {3, 0, 0, 0}},
+    {"CR3 write, buffer empty", WRITE_CR3, {ROOT, 0, 0}, NOTHING, false, 0, {3, 0, 0, 0}},
+    {"CR3 write, all held and dropped", WRITE_CR3, {ROOT, 0, 0}, FULL, true, 0, {3, 0, 0, 0}},
+    {"CR3 write, all held and global", WRITE_CR3, {ROOT, 0, 0}, FULL_OF_GLOBAL, false, 0, {3, 0, 0, 0}},
+    {"mode write, nothing changes", WRITE_MODE, {FLAGS, 0, 0}, PAGE_4K, false, 0, {3, 0, 0, 0}},
+    {"mode write, all dropped", WRITE_MODE, {FLAGS & ~4, 0, 0}, PAGE_4K, true, 0, {3, 0, 0, 0}},
+    {"INVPCID type 0 of a page held", INVPCID, {0, 0, 0x123}, PAGE_4K, true, 0, {3, 0, 0, 0}},
+    {"INVPCID type 1, one page held", INVPCID, {1, 0, 0}, PAGE_4K, true, 0, {3, 0, 0, 0}},
+    {"INVPCID type 2, one page held", INVPCID, {2, 0, 0}, PAGE_4K, true, 0, {3, 0, 0, 0}},
+    {"INVPCID type 3, one page held", INVPCID, {3, 0, 0}, PAGE_4K, true, 0, {3, 0, 0, 0}},
+    {"start", START, {40, 0, 0}, NOTHING, false, 0, {3, 0, 0, 0}},
 };
 
 enum { OPERATIONS = sizeof operations / sizeof *operations };
@@ -106,10 +116,35 @@ static uint64_t make(const struct door *door, const struct operation *operation)
     }
 }
 
-static void put_word(uint64_t address, uint64_t word)
+static void put_word(uint8_t *bytes, uint64_t place, uint64_t word)
 {
     for (unsigned i = 0; i < 8; i++)
-        memory[address + i] = (uint8_t)(word >> 8 * i);
+        bytes[place + i] = (uint8_t)(word >> 8 * i);
+}
+
+/* All slots of one size. A page's number is its set's, and a round of the sets more for each way that it is before the last. */
+static void hold_pages(unsigned first, unsigned sets, uint64_t base, unsigned round, bool global)
+{
+    for (unsigned slot = 0; slot < 4 * sets; slot++) {
+        uint64_t number = (uint64_t)sets * (3 - slot % 4 + round) + slot / 4, place = 32 + 16 * (4 * first + slot);
+        put_word(image, place, 1 | (global ? 2 : 0) | number << 14);
+        put_word(image, place + 8, base | 0xf);
+    }
+}
+
+static void hold(enum held held)
+{
+    static const uint64_t pages[] = {[PAGE_4K] = 0x123, [PAGE_2M] = 0x212345, [PAGE_1G] = 0x40000010};
+    unsigned round = held == FULL_OF_OTHERS ? 1 : 0;
+    if (held == NOTHING)
+        return;
+    if (held <= PAGE_1G) {
+        pastrulow_translate(image, PASTRULOW_IMAGE_BYTES, memory, sizeof memory, 0, pages[held], record, sizeof record);
+        return;
+    }
+    hold_pages(0, 16, 0x5000, round, held == FULL_OF_GLOBAL);
+    hold_pages(16, 8, 0x600000, round, held == FULL_OF_GLOBAL);
+    hold_pages(24, 1, 0x40000000, round, held == FULL_OF_GLOBAL);
 }
 
 /* The part of document 01's trial guest that the operations use, with every accessed bit set. */
@@ -117,17 +152,16 @@ static void set_up(const struct operation *operation)
 {
     size_t image_len = PASTRULOW_IMAGE_BYTES;
     image = images + operation->offset;
-    put_word(0x1000, 0x2027);
-    put_word(0x2000, 0x3027);
-    put_word(0x2008, 0x400000a3);
-    put_word(0x3000, 0x4027);
-    put_word(0x3008, 0x6000a7);
-    put_word(0x4000, 0x5023);
+    put_word(memory, 0x1000, 0x2027);
+    put_word(memory, 0x2000, 0x3027);
+    put_word(memory, 0x2008, 0x400000a3);
+    put_word(memory, 0x3000, 0x4027);
+    put_word(memory, 0x3008, 0x6000a7);
+    put_word(memory, 0x4000, 0x5023);
     pastrulow_start(image, image_len, 40, record, sizeof record);
     pastrulow_write_cr3(image, image_len, ROOT, record, sizeof record);
     pastrulow_write_mode(image, image_len, FLAGS, record, sizeof record);
-    if (operation->held != NOTHING_HELD)
-        pastrulow_translate(image, image_len, memory, sizeof memory, 0, operation->held, record, sizeof record);
+    hold(operation->held);
     memcpy(kept, image, image_len);
 }
 
