@@ -1,14 +1,14 @@
 -- The ways through the functions of a fill: what each return of the code has to show, from the tests on its way.
 -- Bytes written to a part that was lent are written to the whole, further on (`within`), and after each write the bytes are an image's again.
-use Prim.Native.Nat.{ℕ, zero, suc, _+_, _-_, _*_, _/_, _%_, _^_, _≤_, _<_}
+use Prim.Native.Nat.{ℕ, zero, suc, _+_, _-_, _*_, _%_, _^_, _≤_, _<_}
 use mathlib.Core.Path.{_≡_, refl, ap, ap₂, sym, _∙_}
 use mathlib.Core.Bool.{Bool, true, false, cond, not}
 use mathlib.Core.List.{List, _++_, append-assoc}
 use native.Mathlib.Omega.{arith}
-use native.Mathlib.Nat.{mod-lt, add-zero, add-assoc, mul-le-mul-right}
+use native.Mathlib.Nat.{add-zero, add-assoc}
 use lib.ListN.{length, take, drop, length-append, length-drop, take-append-drop}
 use lib.Seq.{length-take-le, take-at, drop-at, take-take, take-add, drop-drop, drop-append-le}
-use lib.Pow.{pow-pos, pow-add, split, shl-exact, shr-lt}
+use lib.Pow.{shl-exact}
 use borrow.Author.Tests.{lt-ltb, le-ltb}
 use Rattle.rules.specs.Bits.{isOn, bytesOf, wordAt, wordPut}
 use Rattle.rules.specs.Image.{Image, victim, movedOn, encode, decode}
@@ -16,6 +16,7 @@ use Rattle.rules.specs.Buffer.{hit, miss, first, stored, withVictims}
 use Rattle.rules.proofs.WordLaws.{bytes-length}
 use Rattle.rules.proofs.ImageLaws.{Sound, victims-bytes, store-bytes, decode-encode}
 use Rattle.rules.proofs.PlaceLaws.{IsImage, tag-at, victims-at, is-encoded, sound-victims}
+use Rattle.rules.proofs.SoundLaws.{victim-parts, moved-lt}
 use Rattle.sets.specs.Ways.{slotsOf}
 use Rattle.buffer.specs.Fill.{isFree, IsLowest, slotPut, filledAt}
 
@@ -57,37 +58,13 @@ pub none-free : (s : Image) (set way : ℕ) → Passed s set way → 4 ≤ way �
 none-free s set way p h =
     record { right = rw (le-ltb way 4 h) (p .same ∙ none-left (isFree s) set way (p .low) h); low = p .low }
 
--- ---- moved_on: with p = 2 ^ (2 * n), the victims are (4 * q + m) * p + r, of which m is set n's; x takes its place
-placed : (p q m r v x : ℕ) → v ≡ (4 * q + m) * p + r → v - m * p + x * p ≡ (4 * q + x) * p + r
-placed p q m r v x e = omega arith
-
-placed-lt : (p k q r x : ℕ) → q < k → r < p → x < 4 → (4 * q + x) * p + r < 4 * k * p
-placed-lt p k q r x h g f =
-    let l : 4 * q + x + 1 ≤ 4 * k = omega arith in
-    omega (arith, mul-le-mul-right p l)
-
-module _ (n v : ℕ) where
-  parts : v ≡ (4 * (v / 2 ^ (2 * n) / 4) + victim n v) * 2 ^ (2 * n) + v % 2 ^ (2 * n)
-  parts =
-      let q : 4 * (v / 2 ^ (2 * n) / 4) + victim n v ≡ v / 2 ^ (2 * n) = omega arith in
-      rw q (sym (split v (2 * n)))
-
-  moved-lt : (x : ℕ) → n < 25 → v < 2 ^ 64 → x < 4 → v - victim n v * 2 ^ (2 * n) + x * 2 ^ (2 * n) < 2 ^ 64
-  moved-lt x h g f =
-      let j : 64 - 2 * n + 2 * n ≡ 64 = omega arith in
-      let i : 2 + (62 - 2 * n) ≡ 64 - 2 * n = omega arith in
-      let k : 2 ^ (64 - 2 * n) ≡ 4 * 2 ^ (62 - 2 * n) = rw i at (pow-add 2 2 (62 - 2 * n)) in
-      let whole : 2 ^ 64 ≡ 4 * 2 ^ (62 - 2 * n) * 2 ^ (2 * n) = rw (j, k) at (pow-add 2 (64 - 2 * n) (2 * n)) in
-      let q : v / 2 ^ (2 * n) < 2 ^ (64 - 2 * n) = shr-lt (64 - 2 * n) (2 * n) (rw j g) in
-      rw (placed (2 ^ (2 * n)) _ (victim n v) _ v x parts, whole)
-      (placed-lt (2 ^ (2 * n)) (2 ^ (62 - 2 * n)) _ _ x (omega arith) (mod-lt v (pow-pos (2 * n))) f)
-
+-- ---- moved_on
 shifted : (n w : ℕ) → n < 25 → w < 4 → w * 2 ^ (2 * n) % 2 ^ 64 ≡ w * 2 ^ (2 * n)
 shifted n w h g = shl-exact 2 (2 * n) 64 g (omega arith)
 
 module _ (n v w : ℕ) (h : n < 25) (e : w ≡ victim n v) where
   pub victim-le : w * 2 ^ (2 * n) % 2 ^ 64 ≤ v
-  victim-le = rw (shifted n w h (omega arith), e) (omega (arith, parts n v))
+  victim-le = rw (shifted n w h (omega arith), e) (omega (arith, victim-parts n v))
 
   pub moves : v - w * 2 ^ (2 * n) % 2 ^ 64 + (w + 1) % 4 * 2 ^ (2 * n) % 2 ^ 64 ≡ movedOn n v
   moves = rw (shifted n w h (omega arith), shifted n ((w + 1) % 4) h (omega arith), e)

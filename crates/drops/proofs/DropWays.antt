@@ -1,7 +1,7 @@
 -- The ways through the functions of `drops`: what each return of the code has to show, from what holds on its way.
 use Prim.Native.Nat.{ℕ, _+_, _-_, _*_, _/_, _%_, _≤_, _<_}
 use mathlib.Core.Path.{_≡_, refl, ap, ap₂, sym, _∙_}
-use mathlib.Core.Bool.{Bool, true, false, _&&_, _||_, and-true, or-true, and-assoc, and-or-distrib-right}
+use mathlib.Core.Bool.{Bool, true, false, _&&_, _||_, and-true, or-true, and-or-distrib-right}
 use mathlib.Core.List.{List, _∷_, _++_}
 use native.Mathlib.Omega.{arith}
 use native.Mathlib.Numerals.{add-one}
@@ -15,6 +15,7 @@ use Rattle.rules.specs.Sizes.{small, middle, large, pageNumber, setOf}
 use Rattle.rules.specs.Image.{isHeld, isGlobal, pcidIn, pageIn}
 use Rattle.rules.specs.Buffer.{contains, matches}
 use Rattle.rules.specs.declared.Size.{Size}
+use Rattle.rules.proofs.BoolLaws.{same}
 use Rattle.rules.proofs.PlaceLaws.{IsImage}
 use Rattle.sets.specs.Ways.{tagIn, tagsIn, isMasked}
 use Rattle.drops.specs.Drops.{droppedIn, every, notGlobal, ofSpace, ofSpaceAt, isAsked, masked, maskedFrom, maskedIn, maskedOf, maskedAt, slotLeft}
@@ -127,11 +128,8 @@ page-dropped z b b′ a page set mask want own whose h g p q e =
     rw (q, p) at e
     ∙ dropped-alike (maskedIn (setOf z a) (0x3FFFFFFFFC000 + mask) (pageNumber z a * 0x4000 + want) own whose) (maskedOf z a mask want own whose) b
     (λ i t. rw (test-page mask t h (pageNumber z a) want g)
-    (regroup (eqb (i / 4) (setOf z a)) (eqb (pageIn t) (pageNumber z a)) (isMasked mask want t) (isGlobal t || isMasked own whose t)))
-  where
-    regroup : (s p m o : Bool) → (s && (p && m && o)) ≡ ((s && p) && (m && o))
-    regroup true p m o = and-assoc p m o
-    regroup false p m o = refl
+    (same 4 (λ s p m o. s && (p && m && o)) (λ s p m o. (s && p) && (m && o)) refl
+    (eqb (i / 4) (setOf z a)) (eqb (pageIn t) (pageNumber z a)) (isMasked mask want t) (isGlobal t || isMasked own whose t)))
 
 -- ---- drop_at
 pub at-dropped : (b b₁ b₂ b₃ : List ℕ) (z₁ z₂ z₃ : Size) (a mask want own whose : ℕ) → IsImage b → z₁ ≡ small → z₂ ≡ middle → z₃ ≡ large
@@ -148,13 +146,8 @@ pub matches-dropped : (b b′ : List ℕ) (a p : ℕ) → b′ ≡ droppedIn (ma
 matches-dropped b b′ a p e =
     e
     ∙ dropped-alike (maskedAt a 1 1 0x3FFC (p * 4)) (matches p a) b
-    (λ i t. rw (test-held t, test-space p t) (held-first (isHeld t) (contains a i t) (isGlobal t || eqb (pcidIn t) p)))
-  where
-    held-first : (h c o : Bool) → (c && (h && o)) ≡ (h && c && o)
-    held-first true true o = refl
-    held-first true false o = refl
-    held-first false true o = refl
-    held-first false false o = refl
+    (λ i t. rw (test-held t, test-space p t)
+    (same 3 (λ h c o. c && (h && o)) (λ h c o. h && c && o) refl (isHeld t) (contains a i t) (isGlobal t || eqb (pcidIn t) p)))
 
 pub address-dropped : (b b′ : List ℕ) (a p : ℕ) → b′ ≡ droppedIn (maskedAt a 0x3FFE (p * 4) 0 0) b → b′ ≡ droppedIn (ofSpaceAt p a) b
 address-dropped b b′ a p e =

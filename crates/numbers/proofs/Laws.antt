@@ -16,9 +16,10 @@ use Rattle.rules.specs.declared.Control.{Control}
 use Rattle.rules.specs.declared.Access.{Access}
 use Rattle.rules.specs.declared.Cause.{Cause}
 use Rattle.rules.specs.declared.Cause.the-variants.{NotPresent, Reserved, Protection}
+use Rattle.rules.proofs.BoolLaws.{same}
 use Rattle.rules.proofs.BitLaws.{one-le, on-one}
 use Rattle.rules.proofs.PlaceLaws.{flags-at, cr3-at}
-use Rattle.words.proofs.Masks.{same, and-one, and-flag}
+use Rattle.words.proofs.Masks.{and-one, and-flag}
 use Rattle.numbers.specs.Needs.{IsSpace, neededFrom, neededOf}
 
 -- ---- the access, by its kind

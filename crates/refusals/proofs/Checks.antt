@@ -1,29 +1,26 @@
 -- The ways through the checks: what each return has to show, from the tests on its way. The image's words are read where its parts stand.
-use Prim.Native.Nat.{ℕ, zero, suc, _+_, _/_, _%_, _^_, _≤_, _<_}
-use mathlib.Core.Path.{_≡_, refl, ap, sym, _∙_}
-use mathlib.Core.Bool.{Bool, true, false, cond, _&&_, _||_, not, and-true, or-true, or-false, true≢false}
+use Prim.Native.Nat.{ℕ, _+_, _/_, _%_, _^_, _≤_, _<_}
+use mathlib.Core.Path.{_≡_, ap, sym, _∙_}
+use mathlib.Core.Bool.{Bool, true, false, cond, _&&_, _||_, not, and-true, or-true, or-false}
 use mathlib.Core.List.{List, []}
 use native.Mathlib.Omega.{arith}
 use native.Mathlib.Numerals.{add-one}
 use lib.ListN.{length, getD, take, drop, length-drop}
 use lib.Seq.{take-suc, take-all}
 use lib.Dec.{eqb, leb, ltb}
-use lib.Bits.{bitOr, or-add-and, and-le-r}
-use borrow.Author.Tests.{eq-eqb, ne-eqb, eqb-true, lt-ltb, le-ltb, ltb-false, le-leb, lt-leb, not-false}
+use lib.Bits.{bitOr}
+use borrow.Author.Tests.{eq-eqb, ne-eqb, lt-ltb, le-ltb, le-leb, lt-leb}
 use Rattle.rules.specs.Bits.{wordsOf, isOn, part, wordAt}
 use Rattle.rules.specs.Image.{decode, control}
 use Rattle.rules.specs.Memory.{Memory}
 use Rattle.rules.specs.Refusals.{start, translate, canonical, isLong, isOutside, allZero, isUnfit, noAddress, noCr3, noMode, noInvpcid, refusal}
 use Rattle.rules.specs.declared.Control.{Control}
 use Rattle.rules.proofs.WordLaws.{zero-append, zero-tail}
+use Rattle.words.proofs.Masks.{zero-or}
 use Rattle.rules.proofs.PlaceLaws.{width-at, flags-at, cr3-at, victims-at}
+use Rattle.rules.proofs.RefusalLaws.{fit}
 
 -- ---- gather
-zero-or : (a b : ℕ) → eqb (bitOr a b) 0 ≡ (eqb a 0 && eqb b 0)
-zero-or zero b = refl
-zero-or (suc a) b =
-    rw (ne-eqb (suc a) 0 (λ e. omega arith)) (ne-eqb (bitOr (suc a) b) 0 (λ e. omega (arith, or-add-and (suc a) b, and-le-r (suc a) b)))
-
 pub one-more : (s : List ℕ) (i a : ℕ) → i < length s → eqb a 0 ≡ allZero (take i s) → eqb (bitOr a (getD s i 0)) 0 ≡ allZero (take (i + 1) s)
 one-more s i a h e = rw (add-one, take-suc s i 0 h, zero-append, and-true, zero-or, e)
 
@@ -47,31 +44,13 @@ module _ (b : List ℕ) (n : ℕ) (h : length b ≡ 2048) (hn : eqb n 0 ≡ allZ
   unfit-is g w f v o hw hf hv ho =
       rw (tail-is, eq-eqb n 0 g, eq-eqb (length b) 2048 h, width-at b, flags-at b, victims-at b, ← hw, ← hf, ← hv, ← ho) (sym (or-false _))
 
-pub or-left : (p q : Bool) → (p || q) ≡ false → p ≡ false
-or-left true q h = h
-or-left false q h = refl
+-- an image that is not refused is fit
+module _ (b : List ℕ) (o : Bool) (e : o ≡ isUnfit b) (h : o ≡ false) where
+  pub fit-long : length b ≡ 2048
+  fit-long = fit b (sym e ∙ h) .long
 
-pub or-right : (p q : Bool) → (p || q) ≡ false → q ≡ false
-or-right true q h = absurd (true≢false h)
-or-right false q h = h
-
--- an image that is not refused is long enough, and has a width
-fit-front : (b : List ℕ) → isUnfit b ≡ false → (not (isLong b) || isOutside (decode b .width)) ≡ false
-fit-front b h = or-left _ _ (or-left _ _ (or-left _ _ h))
-
-pub fit-long : (b : List ℕ) (o : Bool) → o ≡ isUnfit b → o ≡ false → length b ≡ 2048
-fit-long b o e h = eqb-true (length b) 2048 (not-false (isLong b) (or-left (not (isLong b)) _ (fit-front b (sym e ∙ h))))
-
-pub fit-narrow : (b : List ℕ) (o : Bool) → o ≡ isUnfit b → o ≡ false → decode b .width ≤ 52
-fit-narrow b o e h = ltb-false 52 (decode b .width) (or-right (ltb (decode b .width) 36) _ (or-right (not (isLong b)) _ (fit-front b (sym e ∙ h))))
-
-pub fit-wide : (b : List ℕ) (o : Bool) → o ≡ isUnfit b → o ≡ false → 36 ≤ decode b .width
-fit-wide b o e h = ltb-false (decode b .width) 36 (or-left (ltb (decode b .width) 36) _ (or-right (not (isLong b)) _ (fit-front b (sym e ∙ h))))
-
-pub fit-tail : (b : List ℕ) → isUnfit b ≡ false → allZero (drop 204 (wordsOf 256 b)) ≡ true
-fit-tail b h =
-    not-false (allZero (drop 204 (wordsOf 256 b)))
-    (or-right (not (isLong b) || isOutside (decode b .width) || leb (2 ^ 5) (decode b .flags) || leb (2 ^ 50) (decode b .victims)) _ h)
+  pub fit-narrow : decode b .width ≤ 52
+  fit-narrow = fit b (sym e ∙ h) .narrow
 
 -- ---- the conditions, over the words that were read
 module _ (b : List ℕ) (a f : ℕ) (hf : f ≡ wordAt b 8) where

@@ -11,6 +11,7 @@ use Rattle.rules.specs.Image.{decode}
 use Rattle.rules.specs.Refusals.{Request, start, translate, invlpg, invpcid, writeCr3, writeMode, Refusal, lowest, refusals, refusal}
 use Rattle.rules.specs.Calls.{accepted, Outcome, encoded, call, byNumber, Left, door}
 use Rattle.rules.specs.declared.Answer.the-variants.{Refused}
+use Rattle.rules.proofs.BoolLaws.{either}
 
 -- ---- one outcome: what a call leaves is a function of what it is given, and a contract says that it is this
 pub one-outcome : (b : List ℕ) (mem : Memory) (q : Request) (o o′ : Outcome) → o ≡ call b mem q → o′ ≡ call b mem q → o ≡ o′
@@ -54,14 +55,10 @@ above-member : (n : ℕ) {rs : List Refusal} {r : Refusal} → Above n rs → Li
 above-member n h (List·Memᴰ·head e) = rw e (h .0)
 above-member n h (List·Memᴰ·tail m) = above-member n (h .1) m
 
-either : (b : Bool) (x y n : ℕ) → x ≤ n → y ≤ n → cond b x y ≤ n
-either true x y n h g = h
-either false x y n h g = g
-
 pub lowest-least : {rs : List Refusal} {r : Refusal} → Rising rs → List·Memᴰ r rs → r .applies ≡ true → lowest rs ≤ r .number
 lowest-least {r} h (List·Memᴰ·head {x} {xs} e) t = rw (← e, t) (omega arith)
 lowest-least {r} h (List·Memᴰ·tail {x} {xs} m) t =
-    either (x .applies) (x .number) (lowest xs) (r .number) (omega (arith, above-member (x .number) (h .0) m)) (lowest-least (h .1) m t)
+    either (λ (n : ℕ). n ≤ r .number) (x .applies) (x .number) (lowest xs) (λ e. omega (arith, above-member (x .number) (h .0) m)) (λ e. lowest-least (h .1) m t)
 
 -- and the one that is given applies
 pub lowest-applies : (rs : List Refusal) (n : ℕ) → lowest rs ≡ suc n → (r : Refusal) × List·Memᴰ r rs × (r .number ≡ suc n) × (r .applies ≡ true)

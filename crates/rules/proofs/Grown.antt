@@ -1,23 +1,29 @@
 -- A walk only adds bits 5 and 6 to entries of memory, so memory after it holds every entry as it was but for those bits, none of them taken
--- away, and any walk made again ends alike. Entries stand at multiples of 8, so that two of them are one or share no byte.
+-- away, through every call, and any walk made again ends alike. Entries stand at multiples of 8, so that two of them are one or share no byte.
 use Prim.Native.Nat.{ℕ, zero, suc, _+_, _-_, _*_, _/_, _%_, _^_, _≤_, _<_}
-use mathlib.Core.Path.{_≡_, refl, ap, sym, _∙_}
-use mathlib.Core.Bool.{Bool, true, false, cond}
+use mathlib.Core.Path.{_≡_, refl, ap, sym, _∙_, subst}
+use mathlib.Core.Bool.{Bool, true, false}
 use mathlib.Core.List.{List, [], _∷_}
 use native.Mathlib.Omega.{arith}
 use native.Mathlib.Decide.{ℕ-discrete}
 use lib.ListN.{length}
 use lib.Pow.{mod-mod-pow}
 use Rattle.rules.specs.Bits.{isOn, part, withBit}
+use Rattle.rules.specs.Image.{Image, decode, root, control}
 use Rattle.rules.specs.Memory.{Memory, entryAt, added}
 use Rattle.rules.specs.Entries.{Entry, absent, bad, page, table, says, next, also, allows, everything}
 use Rattle.rules.specs.Walk.{top, index, place, End, reached, stuck, Reach, step, reach, accessed, dirtied, marked, reachIn, walk}
+use Rattle.rules.specs.Refusals.{Request, start, translate, invlpg, invpcid, writeCr3, writeMode}
+use Rattle.rules.specs.Calls.{After, accessOf, accepted, Outcome, call}
 use Rattle.rules.specs.declared.Control.{Control}
 use Rattle.rules.specs.declared.Access.{Access}
 use Rattle.rules.specs.declared.Rights.{Rights}
+use Rattle.rules.proofs.BoolLaws.{either}
 use Rattle.rules.proofs.BitLaws.{above, set-above, set-below, set-keeps, part-multiple}
 use Rattle.rules.proofs.MemoryLaws.{added-length, same-entry, other-entry}
-use Rattle.rules.proofs.Alike.{AllOf, Alike, reach-alike, ButMarks, blind}
+use Rattle.rules.proofs.Alike.{AllOf, Alike, SameIndex, reach-alike, ButMarks, Agree, blind}
+use Rattle.rules.proofs.WalkLaws.{endLevel}
+use Rattle.rules.proofs.CallWays.{Called, taken, refused, called, Way, unpaged, answered, walks, way}
 
 -- ---- the addresses that a walk reads are multiples of 8
 abbrev pub Eight : ℕ → Type 0
@@ -39,6 +45,9 @@ next-eight c e = go (part (c .width) 12 e) (part-multiple (c .width) 12 e)
   where
     go : (x : ℕ) → x % 2 ^ 12 ≡ 0 → Eight x
     go x h = omega arith
+
+pub root-eight : (s : Image) → Eight (root s)
+root-eight s = next-eight (control s) (s .cr3)
 
 pub eights : (rd : ℕ → ℕ) (c : Control) (a level base : ℕ) (r : Rights) → Eight base → Eights (reach rd c a level base r)
 eights rd c a zero base r h = record { path = tt; leaf = tt }
@@ -107,7 +116,7 @@ grown-added k a mem h g ea =
 
 -- ---- what a walk writes
 module _ (mem : Memory) where
-  grown-accessed : (path : List ℕ) (mem′ : Memory) → AllOf Eight path → Grown mem mem′ → Grown mem (accessed path mem′)
+  pub grown-accessed : (path : List ℕ) (mem′ : Memory) → AllOf Eight path → Grown mem mem′ → Grown mem (accessed path mem′)
   grown-accessed [] mem′ h g = g
   grown-accessed (at ∷ path) mem′ h g =
       grown-on mem (accessed path mem′) _ (grown-accessed path mem′ (h .1) g) (grown-added 5 at (accessed path mem′) (omega arith) (omega arith) (h .0))
@@ -121,22 +130,42 @@ module _ (mem : Memory) where
     where
       go : (e : End) → LeafEight e → Grown mem (marked c k e (w .path) mem)
       go (stuck cause level) l = grown-none mem
-      go (reached p) l = by (allows c k (p .rights))
-        where
-          by : (b : Bool) → Grown mem (cond b (accessed (w .path) (dirtied (k .write) (p .at) mem)) mem)
-          by true = grown-accessed (w .path) _ (h .path) (grown-dirtied (k .write) (p .at) l)
-          by false = grown-none mem
+      go (reached p) l =
+          either (Grown mem) (allows c k (p .rights)) _ mem
+          (λ e. grown-accessed (w .path) _ (h .path) (grown-dirtied (k .write) (p .at) l)) (λ e. grown-none mem)
 
 pub walk-grows : (c : Control) (k : Access) (a : ℕ) (mem : Memory) → Eight (c .root) → Grown mem (walk c k a mem .memory)
 walk-grows c k a mem h = grown-marked mem c k (reachIn mem c a) (eights (entryAt mem) c a (top c) (c .root) everything h)
+
+-- ---- so memory grows through every call
+way-grows : (s : Image) (mem : Memory) (k : Access) (a : ℕ) {o : After} → Way s mem k a o → Grown mem (o .memory)
+way-grows s mem k a (unpaged off) = grown-none mem
+way-grows s mem k a (answered on i e g) = grown-none mem
+way-grows s mem k a (walks on un) = walk-grows (control s) k a mem (root-eight s)
+
+accepted-grows : (s : Image) (mem : Memory) (q : Request) → Grown mem (accepted s mem q .memory)
+accepted-grows s mem (start w) = grown-none mem
+accepted-grows s mem (translate k a) = way-grows s mem (accessOf k) a (way s mem (accessOf k) a)
+accepted-grows s mem (invlpg a) = grown-none mem
+accepted-grows s mem (invpcid t p a) = grown-none mem
+accepted-grows s mem (writeCr3 v) = grown-none mem
+accepted-grows s mem (writeMode v) = grown-none mem
+
+pub call-grows : (b : List ℕ) (mem : Memory) (q : Request) → Grown mem (call b mem q .memory)
+call-grows b mem q = go (called b mem q)
+  where
+    go : {o : Outcome} → Called b mem q o → Grown mem (o .memory)
+    go (taken e) = accepted-grows (decode b) mem q
+    go (refused n e) = grown-none mem
 
 -- ---- and a walk in grown memory ends alike
 all-eights : (P : ℕ → Type 0) (path : List ℕ) → ((at : ℕ) → Eight at → P at) → AllOf Eight path → AllOf P path
 all-eights P [] f h = tt
 all-eights P (x ∷ xs) f h = (f x (h .0), all-eights P xs f (h .1))
 
-pub walk-again : (c : Control) (a : ℕ) (mem mem′ : Memory) → 7 ≤ c .width → Eight (c .root) → Grown mem mem′
-    → Alike (λ r s. r ≡ s) (reachIn mem c a) (reachIn mem′ c a)
-walk-again c a mem mem′ w h g =
-    reach-alike (entryAt mem) (entryAt mem′) c ButMarks (λ r s. r ≡ s) (blind c w) a (top c) (c .root) everything everything refl
-    (all-eights _ (reachIn mem c a .path) (g .entries) (eights (entryAt mem) c a (top c) (c .root) everything h .path))
+pub walk-again : (c c′ : Control) (a b : ℕ) (mem mem′ : Memory) → 7 ≤ c .width → Eight (c .root) → Agree c c′ → c .root ≡ c′ .root
+    → SameIndex (endLevel (reachIn mem c a .end)) (top c) a b → Grown mem mem′ → Alike (λ r s. r ≡ s) (reachIn mem c a) (reachIn mem′ c′ b)
+walk-again c c′ a b mem mem′ w h same e i g =
+    subst (λ (r : ℕ). Alike (λ r s. r ≡ s) (reachIn mem c a) (reach (entryAt mem′) c′ b (top c) r everything)) e
+    (reach-alike (entryAt mem) (entryAt mem′) c c′ ButMarks (λ r s. r ≡ s) (blind c c′ same w) a b (top c) (c .root) everything everything refl
+    (all-eights _ (reachIn mem c a .path) (g .entries) (eights (entryAt mem) c a (top c) (c .root) everything h .path)) i)

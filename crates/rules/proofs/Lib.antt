@@ -1,3 +1,4 @@
+pub mod BoolLaws
 pub mod BitLaws
 pub mod WordLaws
 pub mod SizeLaws
@@ -6,10 +7,14 @@ pub mod MemoryLaws
 pub mod WalkLaws
 pub mod Alike
 pub mod Grown
+pub mod Marks
 pub mod PlaceLaws
 pub mod SlotLaws
 pub mod AnswerLaws
 pub mod CallLaws
+pub mod RefusalLaws
+pub mod CallWays
+pub mod SoundLaws
 pub mod Cases
 pub mod TrialGuest
 pub mod TrialCases

@@ -1,8 +1,8 @@
 -- Where an image's parts stand in its bytes, as code reads them; and that what code stores leaves an image sound, so that its bytes and its parts
 -- say the same again afterwards.
-use Prim.Native.Nat.{ℕ, _+_, _-_, _*_, _^_, _≤_, _<_}
-use mathlib.Core.Path.{_≡_, refl, ap, sym, _∙_, subst}
-use mathlib.Core.Bool.{Bool, true, false, cond}
+use Prim.Native.Nat.{ℕ, _+_, _*_, _^_, _≤_, _<_}
+use mathlib.Core.Path.{_≡_, refl, ap, sym, subst}
+use mathlib.Core.Bool.{Bool, true, cond}
 use mathlib.Core.List.{List}
 use native.Mathlib.Omega.{arith}
 use lib.ListN.{length, getD, drop}
@@ -12,7 +12,9 @@ use Rattle.rules.specs.Bits.{AreBytes, wordAt, wordsOf}
 use Rattle.rules.specs.Image.{Slot, Image, none, encode, decode}
 use Rattle.rules.specs.Buffer.{droppedIf, dropped, stored, withVictims}
 use Rattle.rules.specs.Refusals.{allZero}
-use Rattle.rules.proofs.WordLaws.{word-at, zero-tail}
+use Rattle.rules.specs.Calls.{withFlags, withCr3}
+use Rattle.rules.proofs.BoolLaws.{either}
+use Rattle.rules.proofs.WordLaws.{word-at}
 use Rattle.rules.proofs.ImageLaws.{Sound, encode-length, encode-decode, decode-encode, sound-decode}
 
 -- ---- words 0 to 3, and a slot's two words
@@ -53,10 +55,8 @@ pub record IsImage (b : List ℕ) : Type 0 where
   pub sound : Sound (decode b)
   pub says : encode (decode b) ≡ b
 
-pub image-of : (b : List ℕ) → AreBytes b → length b ≡ 2048 → allZero (drop 1632 b) ≡ true → IsImage b
-image-of b h n z =
-    let t : allZero (drop 204 (wordsOf 256 b)) ≡ true = zero-tail 256 204 b n (omega arith) ∙ z in
-    record { size = n; sound = sound-decode b h t; says = encode-decode b h n t }
+pub image-of : (b : List ℕ) → AreBytes b → length b ≡ 2048 → allZero (drop 204 (wordsOf 256 b)) ≡ true → IsImage b
+image-of b h n z = record { size = n; sound = sound-decode b h z; says = encode-decode b h n z }
 
 pub is-encoded : (s : Image) → Sound s → IsImage (encode s)
 is-encoded s q =
@@ -69,25 +69,28 @@ sound-slots : (s : Image) (f : ℕ → Slot) → Sound s → ((i : ℕ) → f i 
 sound-slots s f q t d b =
     record { width = q .width; flags = q .flags; cr3 = q .cr3; victims = q .victims; tags = t; datums = d; beyond = b }
 
--- of a slot, or of none
-either : (P : Slot → Type 0) (b : Bool) (t u : Slot) → P t → P u → P (cond b t u)
-either P true t u h g = h
-either P false t u h g = g
-
 pub sound-dropped : (p : ℕ → ℕ → Bool) (s : Image) → Sound s → Sound (dropped p s)
 sound-dropped p s q =
     sound-slots s (λ i. droppedIf p i (s .slots i)) q
-    (λ i. either (λ t. t .tag < 2 ^ 64) (p i (s .slots i .tag)) none (s .slots i) (omega arith) (q .tags i))
-    (λ i. either (λ t. t .datum < 2 ^ 64) (p i (s .slots i .tag)) none (s .slots i) (omega arith) (q .datums i))
-    (λ i h. either (λ t. t ≡ none) (p i (s .slots i .tag)) none (s .slots i) refl (q .beyond i h))
+    (λ i. either (λ (t : Slot). t .tag < 2 ^ 64) (p i (s .slots i .tag)) none (s .slots i) (λ e. omega arith) (λ e. q .tags i))
+    (λ i. either (λ (t : Slot). t .datum < 2 ^ 64) (p i (s .slots i .tag)) none (s .slots i) (λ e. omega arith) (λ e. q .datums i))
+    (λ i h. either (λ (t : Slot). t ≡ none) (p i (s .slots i .tag)) none (s .slots i) (λ e. refl) (λ e. q .beyond i h))
 
 pub sound-stored : (i : ℕ) (t : Slot) (s : Image) → i < 100 → t .tag < 2 ^ 64 → t .datum < 2 ^ 64 → Sound s → Sound (stored i t s)
 sound-stored i t s h g f q =
     sound-slots s (λ j. cond (eqb j i) t (s .slots j)) q
-    (λ j. either (λ u. u .tag < 2 ^ 64) (eqb j i) t (s .slots j) g (q .tags j))
-    (λ j. either (λ u. u .datum < 2 ^ 64) (eqb j i) t (s .slots j) f (q .datums j))
+    (λ j. either (λ (u : Slot). u .tag < 2 ^ 64) (eqb j i) t (s .slots j) (λ e. g) (λ e. q .tags j))
+    (λ j. either (λ (u : Slot). u .datum < 2 ^ 64) (eqb j i) t (s .slots j) (λ e. f) (λ e. q .datums j))
     (λ j k. rw (ne-eqb j i (omega arith)) (q .beyond j k))
 
 pub sound-victims : (v : ℕ) (s : Image) → v < 2 ^ 64 → Sound s → Sound (withVictims v s)
 sound-victims v s h q =
     record { width = q .width; flags = q .flags; cr3 = q .cr3; victims = h; tags = q .tags; datums = q .datums; beyond = q .beyond }
+
+pub sound-flags : (v : ℕ) (s : Image) → v < 2 ^ 64 → Sound s → Sound (withFlags v s)
+sound-flags v s h q =
+    record { width = q .width; flags = h; cr3 = q .cr3; victims = q .victims; tags = q .tags; datums = q .datums; beyond = q .beyond }
+
+pub sound-cr3 : (v : ℕ) (s : Image) → v < 2 ^ 64 → Sound s → Sound (withCr3 v s)
+sound-cr3 v s h q =
+    record { width = q .width; flags = q .flags; cr3 = h; victims = q .victims; tags = q .tags; datums = q .datums; beyond = q .beyond }

@@ -2,7 +2,7 @@
 -- A size is one of three, so a law of sizes is three sums; a word is a sum of parts that do not overlap, so each part is read back by dividing.
 use Prim.Native.Nat.{ℕ, zero, suc, _+_, _-_, _*_, _/_, _%_, _^_, _≤_, _<_, max}
 use mathlib.Core.Path.{_≡_, refl}
-use mathlib.Core.Bool.{Bool, true, false, cond}
+use mathlib.Core.Bool.{Bool, true}
 use mathlib.Core.List.{[], _∷_, List·Memᴰ, List·Memᴰ·head, List·Memᴰ·tail, Memᴰ·append-left, Memᴰ·append-right}
 use native.Mathlib.Omega.{arith}
 use native.Mathlib.Nat.{add-comm, mod-lt, mod-eq-of-lt, mul-assoc, mul-mod-left, lt-of-lt-of-le}
@@ -15,6 +15,7 @@ use Rattle.rules.specs.Image.{isHeld, isGlobal, pcidIn, pageIn, tagOf, r
 use Rattle.rules.specs.Buffer.{allWays}
 use Rattle.rules.specs.declared.Size.{Size}
 use Rattle.rules.specs.declared.Rights.{Rights}
+use Rattle.rules.proofs.BoolLaws.{either}
 use Rattle.rules.proofs.BitLaws.{one-le, flag-back}
 
 -- ---- sizes
@@ -33,12 +34,7 @@ level-at (suc (suc (suc zero))) h g = refl
 level-at (suc (suc (suc (suc l)))) h g = absurd (omega arith)
 
 pub size-of : (i : ℕ) → Is (sizeOf i)
-size-of i = go (ltb (i / 4) 16) (ltb (i / 4) 24)
-  where
-    go : (b c : Bool) → Is (cond b small (cond c middle large))
-    go true c = is-small
-    go false true = is-middle
-    go false false = is-large
+size-of i = either Is (ltb (i / 4) 16) small _ (λ e. is-small) (λ e. either Is (ltb (i / 4) 24) middle large (λ f. is-middle) (λ f. is-large))
 
 pub length-is : (z : Size) → Is z → z .length ≡ 2 ^ shift (z .level)
 length-is z is-small = refl
@@ -59,6 +55,12 @@ pub page-lt : (z : Size) (a : ℕ) → Is z → pageNumber z a < 2 ^ 36
 page-lt z a is-small = omega arith
 page-lt z a is-middle = omega arith
 page-lt z a is-large = omega arith
+
+-- two addresses of one small page lie in one page of every size
+pub larger : (z : Size) (a b : ℕ) → Is z → pageNumber small a ≡ pageNumber small b → pageNumber z a ≡ pageNumber z b
+larger z a b is-small h = h
+larger z a b is-middle h = omega arith
+larger z a b is-large h = omega arith
 
 -- ---- an address's own slots
 pub slot-size : (z : Size) (a i : ℕ) → Is z → i / 4 ≡ setOf z a → sizeOf i ≡ z

@@ -1,6 +1,6 @@
--- What holds of every walk, by one induction over the level: the count is the number of addresses read; where a walk ends; what it writes.
+-- What holds of every walk, by one induction over the level: the count is the number of addresses read; where a walk ends, what it finds and what it writes.
 use Prim.Native.Nat.{ℕ, zero, suc, _+_, _-_, _%_, _^_, _≤_, _<_}
-use mathlib.Core.Path.{_≡_, refl, ap, _∙_}
+use mathlib.Core.Path.{_≡_, refl, ap, _∙_, subst}
 use mathlib.Core.Bool.{Bool, true, false, cond, _&&_, _||_}
 use mathlib.Core.List.{List}
 use native.Mathlib.Omega.{arith}
@@ -8,13 +8,16 @@ use native.Mathlib.Numerals.{one-add}
 use lib.ListN.{length}
 use lib.Dec.{eqb, leb}
 use borrow.Author.Tests.{eqb-true, leb-true}
-use Rattle.rules.specs.Bits.{isOn}
-use Rattle.rules.specs.Memory.{Memory}
-use Rattle.rules.specs.Entries.{Entry, absent, bad, page, table, sorted, says, isPage, isReserved, next, also, allows}
-use Rattle.rules.specs.Walk.{place, End, reached, stuck, Reach, step, reach, pageIf, judged, marked, accessed, dirtied}
+use Rattle.rules.specs.Bits.{isOn, part}
+use Rattle.rules.specs.Sizes.{shift}
+use Rattle.rules.specs.Memory.{Memory, entryAt}
+use Rattle.rules.specs.Entries.{Entry, absent, bad, page, table, sorted, says, isPage, isReserved, next, everything, also, allows}
+use Rattle.rules.specs.Walk.{top, place, Leaf, End, reached, stuck, Reach, step, reach, reachIn, pageIf, judged, marked, accessed, dirtied}
 use Rattle.rules.specs.declared.Control.{Control}
 use Rattle.rules.specs.declared.Access.{Access}
 use Rattle.rules.specs.declared.Rights.{Rights}
+use Rattle.rules.specs.declared.Cause.{Cause}
+use Rattle.rules.specs.declared.Cause.the-variants.{Protection}
 use Rattle.rules.specs.declared.Found.{Found}
 use Rattle.rules.specs.declared.Found.the-variants.{Page, Fault}
 use Rattle.rules.proofs.SizeLaws.{base-low, base-lt}
@@ -114,36 +117,52 @@ ended rd c a = reach-ind (λ n w. 1 ≤ n → endLevel (w .end) + w .read ≡ su
     go n at r below h page q g = omega arith
     go n at r below h table q g = deeper n below h (rd at) q
 
--- a page's level is 1 to 3
-abbrev pub LeafLevel : End → Type 0
-LeafLevel (reached p) = (1 ≤ p .level) × (p .level ≤ 3)
-LeafLevel (stuck cause level) = Unit {0}
+-- so no higher than it began
+pub end-low : (rd : ℕ → ℕ) (c : Control) (a level base : ℕ) (r : Rights) → 1 ≤ level → endLevel (reach rd c a level base r .end) ≤ level
+end-low rd c a level base r h = omega (arith, ended rd c a level base r h, read-range rd c a level base r h)
 
-pub leaf-level : (rd : ℕ → ℕ) (c : Control) (a level base : ℕ) (r : Rights) → LeafLevel (reach rd c a level base r .end)
-leaf-level rd c a = reach-ind (λ n w. LeafLevel (w .end)) rd c a tt go
+-- ---- a page is what its entry says, at level 1 to 3
+pub record IsLeaf (rd : ℕ → ℕ) (c : Control) (p : Leaf) : Type 0 where
+  pub low : 1 ≤ p .level
+  pub high : p .level ≤ 3
+  pub base : p .base ≡ part (c .width) (shift (p .level)) (rd (p .at))
+  pub dirty : p .dirty ≡ isOn 6 (rd (p .at))
+
+abbrev IsEnd : (ℕ → ℕ) → Control → End → Type 0
+IsEnd rd c (reached p) = IsLeaf rd c p
+IsEnd rd c (stuck cause level) = Unit {0}
+
+is-end : (rd : ℕ → ℕ) (c : Control) (a level base : ℕ) (r : Rights) → IsEnd rd c (reach rd c a level base r .end)
+is-end rd c a = reach-ind (λ n w. IsEnd rd c (w .end)) rd c a tt go
   where
-    go : (n at : ℕ) (r : Rights) (below : Reach) → LeafLevel (below .end) → (v : Entry) → says c (suc n) (rd at) ≡ v
-        → LeafLevel (step c (suc n) at (rd at) r below v .end)
+    go : (n at : ℕ) (r : Rights) (below : Reach) → IsEnd rd c (below .end) → (v : Entry) → says c (suc n) (rd at) ≡ v
+        → IsEnd rd c (step c (suc n) at (rd at) r below v .end)
     go n at r below h absent q = tt
     go n at r below h bad q = tt
-    go n at r below h page q = (omega arith, page-level c (suc n) (rd at) q)
+    go n at r below h page q = record { low = omega arith; high = page-level c (suc n) (rd at) q; base = refl; dirty = refl }
     go n at r below h table q = h
 
--- a page's base is a multiple of 4096 below 2^52
-abbrev pub LeafBase : End → Type 0
-LeafBase (reached p) = (p .base % 4096 ≡ 0) × (p .base < 2 ^ 52)
-LeafBase (stuck cause level) = Unit {0}
+pub is-leaf : (mem : Memory) (c : Control) (a : ℕ) (p : Leaf) → reachIn mem c a .end ≡ reached p → IsLeaf (entryAt mem) c p
+is-leaf mem c a p e = subst (IsEnd (entryAt mem) c) e (is-end (entryAt mem) c a (top c) (c .root) everything)
 
-pub leaf-base : (rd : ℕ → ℕ) (c : Control) (a level base : ℕ) (r : Rights) → c .width ≤ 52 → LeafBase (reach rd c a level base r .end)
-leaf-base rd c a level base r w = reach-ind (λ n w. LeafBase (w .end)) rd c a tt go level base r
+-- its base is a multiple of 4096 below 2^52
+module _ (rd : ℕ → ℕ) (c : Control) (p : Leaf) (l : IsLeaf rd c p) where
+  pub leaf-base : p .base % 4096 ≡ 0
+  leaf-base = rw (l .base) (base-low (p .level) (c .width) (rd (p .at)) (l .low))
+
+  pub leaf-lt : c .width ≤ 52 → p .base < 2 ^ 52
+  leaf-lt w = rw (l .base) (base-lt (p .level) (c .width) (rd (p .at)) w (l .high))
+
+-- ---- what is found: a page that the access may use, or a fault at the level where the walk ended
+pub found-cases : (c : Control) (k : Access) (n : ℕ) (C : Found → Type 0) (w : End)
+    → ((p : Leaf) → w ≡ reached p → allows c k (p .rights) ≡ true → C (Page (p .base) (p .level) (p .rights) (p .global) (k .write || p .dirty) n))
+    → ((cause : Cause) → C (Fault cause (endLevel w) n)) → C (judged c k w n)
+found-cases c k n C (stuck cause level) may fault = fault cause
+found-cases c k n C (reached p) may fault = go (allows c k (p .rights)) refl
   where
-    go : (n at : ℕ) (r : Rights) (below : Reach) → LeafBase (below .end) → (v : Entry) → says c (suc n) (rd at) ≡ v
-        → LeafBase (step c (suc n) at (rd at) r below v .end)
-    go n at r below h absent q = tt
-    go n at r below h bad q = tt
-    go n at r below h page q =
-        (base-low (suc n) (c .width) (rd at) (omega arith), base-lt (suc n) (c .width) (rd at) w (page-level c (suc n) (rd at) q))
-    go n at r below h table q = h
+    go : (b : Bool) → allows c k (p .rights) ≡ b → C (pageIf b k p n)
+    go true g = may p refl g
+    go false g = fault Protection
 
 -- ---- a fault writes nothing
 abbrev pub IsFault : Found → Type 0

@@ -5,7 +5,7 @@
 use Prim.Native.Nat.{ℕ, _+_, _^_}
 use mathlib.Core.Path.{_≡_, refl}
 use mathlib.Core.Bool.{false}
-use mathlib.Core.List.{List, [], _∷_, _++_, map}
+use mathlib.Core.List.{[], _∷_, _++_}
 use native.Mathlib.Omega.{arith}
 use lib.ListN.{replicate}
 use Rattle.rules.specs.Image.{encode, decode}
@@ -39,22 +39,8 @@ abbrev spaces : History
 spaces = ready then writeMode 31 with [] then writeCr3 0x0001 with []
 
 -- ---- a case: a translate after a history, what it answers, and what it answers without a buffer
-record Case : Type 0 where
-  history : History
-  memory : Memory
-  kind : ℕ
-  address : ℕ
-  answer : Answer
-  plainly : Answer
-
-abbrev shows : History → Memory → ℕ → ℕ → Answer → Answer → Case
-shows h mem k a r p = record { history = h; memory = mem; kind = k; address = a; answer = r; plainly = p }
-
-abbrev got : Case → List Answer
-got c = call (bytes (c .history)) (c .memory) (translate (c .kind) (c .address)) .answer ∷ plain (image (c .history)) (c .memory) (c .kind) (c .address) .answer ∷ []
-
-abbrev wanted : Case → List Answer
-wanted c = c .answer ∷ c .plainly ∷ []
+abbrev Shows : History → Memory → ℕ → ℕ → Answer → Answer → Type 0
+Shows h mem k a r p = (call (bytes h) mem (translate k a) .answer ≡ r) × (plain (image h) mem k a .answer ≡ p)
 
 -- what a translate leaves of guest memory
 abbrev left : History → Memory → ℕ → ℕ → Memory
@@ -88,32 +74,41 @@ returned = spaces then translate 0 0x1000 with first then writeCr3 (2 ^ 63 + 0x1
 abbrev nearby : History
 nearby = ready then translate 0 0x601000 with first then translate 0 0x605000 with changed
 
-abbrev cases : List Case
-cases =
+pub all-shown :
     -- the guest changed its table and did not invalidate: the answer is that of before. After INVLPG it is the new page
-    shows read changed 0 0x1000 (Address 0x5000 0x1000 0) (Address 0x8000 0x1000 4)
-    ∷ shows (read then invlpg 0x1FFF with []) changed 0 0x1000 (Address 0x8000 0x1000 4) (Address 0x8000 0x1000 4)
+    Shows read changed 0 0x1000 (Address 0x5000 0x1000 0) (Address 0x8000 0x1000 4)
+    × Shows (read then invlpg 0x1FFF with []) changed 0 0x1000 (Address 0x8000 0x1000 4) (Address 0x8000 0x1000 4)
     -- a global page stays through a CR3 write, and through INVPCID of its address; it answers under another PCID and another root
-    ∷ shows (readGlobal ready then writeCr3 0x0000 with []) changed 0 0x2000 (Address 0x6000 0x1000 0) (Address 0x9000 0x1000 4)
-    ∷ shows (readGlobal spaces then invpcid 0 1 0x2000 with []) changed 0 0x2000 (Address 0x6000 0x1000 0) (Address 0x9000 0x1000 4)
-    ∷ shows (readGlobal spaces then writeCr3 0x1002 with []) first 0 0x2000 (Address 0x6000 0x1000 0) (Address 0x7000 0x1000 4)
+    × Shows (readGlobal ready then writeCr3 0x0000 with []) changed 0 0x2000 (Address 0x6000 0x1000 0) (Address 0x9000 0x1000 4)
+    × Shows (readGlobal spaces then invpcid 0 1 0x2000 with []) changed 0 0x2000 (Address 0x6000 0x1000 0) (Address 0x9000 0x1000 4)
+    × Shows (readGlobal spaces then writeCr3 0x1002 with []) first 0 0x2000 (Address 0x6000 0x1000 0) (Address 0x7000 0x1000 4)
     -- another PCID walks; the first comes back without a flush and finds its page
-    ∷ shows other changed 0 0x1000 (Address 0x8000 0x1000 4) (Address 0x8000 0x1000 4)
-    ∷ shows (other then translate 0 0x1000 with changed then writeCr3 (2 ^ 63 + 0x0001) with []) changed 0 0x1000 (Address 0x5000 0x1000 0) (Address 0x8000 0x1000 4)
+    × Shows other changed 0 0x1000 (Address 0x8000 0x1000 4) (Address 0x8000 0x1000 4)
+    × Shows (other then translate 0 0x1000 with changed then writeCr3 (2 ^ 63 + 0x0001) with []) changed 0 0x1000 (Address 0x5000 0x1000 0) (Address 0x8000 0x1000 4)
     -- a write to a clean page walks once more, and from then on is answered
-    ∷ shows read (left ready first 0 0x1000) 1 0x1000 (Address 0x5000 0x1000 4) (Address 0x5000 0x1000 4)
-    ∷ shows written (left read (left ready first 0 0x1000) 1 0x1000) 1 0x1000 (Address 0x5000 0x1000 0) (Address 0x5000 0x1000 4)
+    × Shows read (left ready first 0 0x1000) 1 0x1000 (Address 0x5000 0x1000 4) (Address 0x5000 0x1000 4)
+    × Shows written (left read (left ready first 0 0x1000) 1 0x1000) 1 0x1000 (Address 0x5000 0x1000 0) (Address 0x5000 0x1000 4)
     -- the root changed without a flush: only the translator wrote to memory, and yet the answer is not that of the walk
-    ∷ shows moved (left spaces first 0 0x1000) 0 0x1000 (Address 0x5000 0x1000 0) (Address 0x7000 0x1000 4)
+    × Shows moved (left spaces first 0 0x1000) 0 0x1000 (Address 0x5000 0x1000 0) (Address 0x7000 0x1000 4)
     -- the root of another PCID does not matter
-    ∷ shows returned (left spaces first 0 0x1000) 0 0x1000 (Address 0x5000 0x1000 0) (Address 0x5000 0x1000 4)
+    × Shows returned (left spaces first 0 0x1000) 0 0x1000 (Address 0x5000 0x1000 0) (Address 0x5000 0x1000 4)
     -- INVLPG of the neighbour drops the page of 2 MiB that holds both, and not the small page of before
-    ∷ shows (nearby then invlpg 0x605000 with []) changed 0 0x601000 (Address 0x5000 0x1000 0) (Address 0xA01000 0x200000 3)
-    ∷ []
-
-pub all-shown : map got cases ≡ map wanted cases
+    × Shows (nearby then invlpg 0x605000 with []) changed 0 0x601000 (Address 0x5000 0x1000 0) (Address 0xA01000 0x200000 3)
 unfolding bytes encode decode
-all-shown = refl
+all-shown = (
+  (refl, refl),
+  (refl, refl),
+  (refl, refl),
+  (refl, refl),
+  (refl, refl),
+  (refl, refl),
+  (refl, refl),
+  (refl, refl),
+  (refl, refl),
+  (refl, refl),
+  (refl, refl),
+  (refl, refl),
+)
 
 -- ---- what does not cover: a CR3 write and INVPCID type 0 a global slot, INVLPG of a neighbour an address of the same 2 MiB
 pub not-covered : (covered global 0x2000 (readGlobal ready) [] (writeCr3 0x0000) ≡ false)

@@ -1,6 +1,4 @@
-pub mod Ways
 pub mod Images
-pub mod Walks
 pub mod Fates
 pub mod Origins
 pub mod Answers

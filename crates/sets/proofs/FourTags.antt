@@ -5,19 +5,14 @@ use mathlib.Core.Bool.{Bool, _||_, or-false, or-assoc}
 use mathlib.Core.List.{List}
 use native.Mathlib.Omega.{arith}
 use lib.Dec.{eqb}
-use lib.Bits.{bitOr, or-add-and, or-mod, and-le-l, and-le-r}
+use lib.Bits.{bitOr, or-mod}
 use Rattle.rules.specs.Bits.{wordAt}
 use Rattle.rules.specs.Image.{isHeld}
 use Rattle.rules.proofs.PlaceLaws.{tag-at}
+use Rattle.words.proofs.Masks.{zero-left, zero-right}
 use Rattle.sets.specs.Ways.{slotsOf, tagIn, tagsIn, anyHeld}
 
 -- ---- of two
-zero-left : (a b : ℕ) → bitOr a b ≡ 0 → a ≡ 0
-zero-left a b e = omega (arith, or-add-and a b, and-le-r a b)
-
-zero-right : (a b : ℕ) → bitOr a b ≡ 0 → b ≡ 0
-zero-right a b e = omega (arith, or-add-and a b, and-le-l a b)
-
 abbrev isOdd : ℕ → Bool
 isOdd n = eqb (n % 2) 1
 

@@ -4,10 +4,9 @@ use Prim.Native.Nat.{ℕ, _+_, _-_, _*_, _/_, _%_, _^_, _≤_, _<_}
 use mathlib.Core.Path.{_≡_, refl, ap, sym, _∙_}
 use mathlib.Core.Bool.{Bool, true, false, _&&_, not}
 use native.Mathlib.Omega.{arith}
-use native.Mathlib.Nat.{mod-lt, zero-mul, zero-add}
 use lib.Dec.{eqb}
-use lib.Pow.{pow-pos, split, shr-shr, mod-pow-add}
-use lib.Bits.{bitAnd, and-zero-r, and-mask, and-high, and-block, and-le-r}
+use lib.Pow.{shr-shr, mod-pow-add}
+use lib.Bits.{bitAnd, and-zero-r, and-mask, and-high, and-le-r}
 use borrow.Author.Tests.{eq-eqb, ne-eqb, eqb-true, eqb-false}
 use Rattle.rules.specs.Image.{isHeld, isGlobal, pcidIn, pageIn}
 use Rattle.rules.specs.Buffer.{others}

@@ -1,29 +1,26 @@
 -- The ways through the calls: refused, and accepted, each to the outcome of the rules' call.
-use Prim.Native.Nat.{ℕ, zero, suc, _+_, _/_, _%_, _^_, _≤_, _<_}
+use Prim.Native.Nat.{ℕ, zero, suc, _+_, _%_, _^_, _≤_, _<_}
 use mathlib.Core.Path.{_≡_, refl, ap, ap₂, sym, _∙_, subst}
-use mathlib.Core.Bool.{Bool, true, false, cond, _&&_, _||_, not}
+use mathlib.Core.Bool.{Bool, true, false, _&&_, not}
 use mathlib.Core.List.{List, [], _∷_, _++_}
 use native.Mathlib.Omega.{arith}
 use native.Mathlib.Numerals.{add-one}
-use lib.Dec.{eqb, ltb}
 use lib.ListN.{length, take, set, replicate, length-replicate}
 use lib.Seq.{take-suc-set, take-all}
-use borrow.Author.Tests.{eqb-true, ltb-false}
 use Rattle.rules.specs.Bits.{AreBytes, isOn, wordAt, wordPut}
-use Rattle.rules.specs.Image.{Image, started, encode, decode, control, pg, pcide, pcid}
+use Rattle.rules.specs.Image.{Image, started, encode, decode, control, pcid}
 use Rattle.rules.specs.Memory.{Memory}
-use Rattle.rules.specs.Refusals.{Request, start, translate, invlpg, invpcid, writeCr3, writeMode, canonical, isLong, isOutside, isUnfit, noMode, noInvpcid, refusal}
+use Rattle.rules.specs.Refusals.{Request, start, invlpg, invpcid, writeCr3, writeMode, canonical, refusal}
 use Rattle.rules.specs.Calls.{withCr3, withFlags, isSame, sameMode, invpcidDrops, accepted, done, Outcome, encoded, byNumber}
 use Rattle.rules.specs.Buffer.{matches, others, dropped}
 use Rattle.rules.specs.declared.Control.{Control}
 use Rattle.rules.specs.declared.Answer.{Answer}
 use Rattle.rules.specs.declared.Answer.the-variants.{Refused, Done}
-use Rattle.rules.proofs.WordLaws.{zero-tail}
 use Rattle.rules.proofs.ImageLaws.{Sound, cr3-bytes, flags-bytes, decode-encode}
-use Rattle.rules.proofs.PlaceLaws.{IsImage, image-of, is-encoded, flags-at, cr3-at}
+use Rattle.rules.proofs.PlaceLaws.{IsImage, is-encoded, flags-at, sound-flags, sound-cr3}
+use Rattle.rules.proofs.RefusalLaws.{given, Later, fits, fit-image}
 use Rattle.drops.specs.Drops.{droppedIn, every, notGlobal, ofSpace, ofSpaceAt}
 use Rattle.translator.specs.Contract.{Leaves}
-use Rattle.refusals.proofs.Checks.{or-left, or-right, fit-long, fit-tail}
 
 -- ---- clear
 zeros-next : (i : ℕ) → replicate {A = ℕ} (suc i) 0 ≡ replicate i 0 ++ (0 ∷ [])
@@ -54,60 +51,25 @@ started-bytes : (w : ℕ) → wordPut (replicate 2048 0) 0 w ≡ encode (started
 unfolding encode
 started-bytes w = refl
 
-start-long : (b : List ℕ) (w : ℕ) → refusal b [] (start w) ≡ 0 → length b ≡ 2048
-start-long b w h = eqb-true (length b) 2048 (go (isLong b) (isOutside w) h)
-  where
-    go : (l o : Bool) → _≡_ {A = ℕ} (cond (not l || o) 2 0) 0 → l ≡ true
-    go true o e = refl
-    go false o e = absurd (omega arith)
-
 pub starts : (w n : ℕ) (b b₁ b₂ : List ℕ) → n ≡ refusal b [] (start w) → n ≡ 0 → b₁ ≡ replicate (length b) 0 → b₂ ≡ wordPut b₁ 0 w
     → Leaves (start w) b b₂ Done
 starts w n b b₁ b₂ h z e₁ e₂ =
-    let l : length b ≡ 2048 = start-long b w (sym h ∙ z) in
+    let l : length b ≡ 2048 = given b [] (start w) (sym h ∙ z) .0 in
     let q : b₂ ≡ encode (started w) = e₂ ∙ ap (λ (x : List ℕ). wordPut x 0 w) (e₁ ∙ ap (λ (k : ℕ). replicate {A = ℕ} k 0) l) ∙ started-bytes w in
     accepts (start w) b b₂ n Done (λ mem. refl) h z (λ mem. λ i. record { answer = Done; image = q i; memory = mem })
 
 pub room : (w n : ℕ) (b b₁ : List ℕ) → n ≡ refusal b [] (start w) → n ≡ 0 → b₁ ≡ replicate (length b) 0 → 0 + 8 ≤ length b₁
-room w n b b₁ h z e = omega (arith, start-long b w (sym h ∙ z), ap length e ∙ length-replicate (length b) 0)
+room w n b b₁ h z e = omega (arith, given b [] (start w) (sym h ∙ z) .0, ap length e ∙ length-replicate (length b) 0)
 
 -- ---- a call other than start that is accepted was given an image
-abbrev pub Later : Request → Type 0
-Later (start w) = ⊥
-Later (translate k a) = Unit {0}
-Later (invlpg a) = Unit {0}
-Later (invpcid t p a) = Unit {0}
-Later (writeCr3 v) = Unit {0}
-Later (writeMode v) = Unit {0}
-
-unrefused : (u : Bool) (x : ℕ) → cond u 2 x ≡ 0 → u ≡ false
-unrefused true x h = absurd (omega arith)
-unrefused false x h = refl
-
-unrefused-next : (u v : Bool) (k x : ℕ) → cond u 2 (cond v (suc k) x) ≡ 0 → v ≡ false
-unrefused-next true v k x h = absurd (omega arith)
-unrefused-next false true k x h = absurd (omega arith)
-unrefused-next false false k x h = refl
-
-pub fits : (q : Request) (b : List ℕ) (mem : Memory) → Later q → refusal b mem q ≡ 0 → isUnfit b ≡ false
-fits (start w) b mem l h = absurd l
-fits (translate k a) b mem l h = unrefused (isUnfit b) _ h
-fits (invlpg a) b mem l h = unrefused (isUnfit b) _ h
-fits (invpcid t p a) b mem l h = unrefused (isUnfit b) _ h
-fits (writeCr3 v) b mem l h = unrefused (isUnfit b) _ h
-fits (writeMode v) b mem l h = unrefused (isUnfit b) _ h
-
 pub call-long : (q : Request) (b : List ℕ) (mem : Memory) (n : ℕ) → Later q → n ≡ refusal b mem q → n ≡ 0 → length b ≡ 2048
-call-long q b mem n l h z = fit-long b (isUnfit b) refl (fits q b mem l (sym h ∙ z))
+call-long q b mem n l h z = fits q b mem l (sym h ∙ z) .long
 
 pub call-room : (at : ℕ) (q : Request) (b : List ℕ) (mem : Memory) (n : ℕ) → Later q → n ≡ refusal b mem q → n ≡ 0 → at + 8 ≤ 2048 → at + 8 ≤ length b
 call-room at q b mem n l h z g = omega (arith, call-long q b mem n l h z)
 
 pub call-image : (q : Request) (b : List ℕ) (mem : Memory) (n : ℕ) → Later q → AreBytes b → n ≡ refusal b mem q → n ≡ 0 → IsImage b
-call-image q b mem n l bytes h z =
-    let f : isUnfit b ≡ false = fits q b mem l (sym h ∙ z) in
-    let k : length b ≡ 2048 = fit-long b (isUnfit b) refl f in
-    image-of b bytes k (sym (zero-tail 256 204 b k (omega arith)) ∙ fit-tail b f)
+call-image q b mem n l bytes h z = fit-image b bytes (fits q b mem l (sym h ∙ z))
 
 -- ---- a call that is done leaves the bytes of the image that the rules say
 does : (q : Request) (b b′ : List ℕ) (n : ℕ) (s′ : Image) → ((mem : Memory) → refusal b mem q ≡ refusal b [] q)
@@ -156,15 +118,9 @@ module _ (t p a n : ℕ) (b b′ : List ℕ) (h : n ≡ refusal b [] (invpcid t 
 
   -- the address space is one of 4096
   pub space-lt : p < 4096
-  space-lt =
-      let f : noInvpcid (decode b) t p a ≡ false = unrefused-next (isUnfit b) _ 7 0 (sym h ∙ z) in
-      let g : (ltb 3 t || ltb 4095 p) ≡ false = or-left _ (eqb t 0 && not (canonical (control (decode b)) a)) (or-left _ _ f) in
-      omega (arith, ltb-false 4095 p (or-right (ltb 3 t) _ g))
+  space-lt = omega (arith, given b [] (invpcid t p a) (sym h ∙ z) .1)
 
 -- ---- a CR3 write
-low : (v : ℕ) → v % 2 ^ 63 < 2 ^ 64
-low v = omega arith
-
 module _ (v n : ℕ) (b b₁ : List ℕ) (was : IsImage b) (h : n ≡ refusal b [] (writeCr3 v)) (z : n ≡ 0) (put : b₁ ≡ wordPut b 16 (v % 2 ^ 63)) where
   abbrev rooted : Image
   rooted = withCr3 (v % 2 ^ 63) (decode b)
@@ -173,17 +129,7 @@ module _ (v n : ℕ) (b b₁ : List ℕ) (was : IsImage b) (h : n ≡ refusal b 
   rooted-bytes = put ∙ sym (cr3-bytes (v % 2 ^ 63) (decode b) ∙ ap (λ (x : List ℕ). wordPut x 16 (v % 2 ^ 63)) (was .says))
 
   rooted-sound : Sound rooted
-  rooted-sound =
-      let q : Sound (decode b) = was .sound in
-      record {
-        width = q .width;
-        flags = q .flags;
-        cr3 = low v;
-        victims = q .victims;
-        tags = q .tags;
-        datums = q .datums;
-        beyond = q .beyond;
-      }
+  rooted-sound = sound-cr3 (v % 2 ^ 63) (decode b) (omega arith) (was .sound)
 
   pub cr3-image : IsImage b₁
   cr3-image = subst IsImage (sym rooted-bytes) (is-encoded rooted rooted-sound)
@@ -212,15 +158,8 @@ module _ (v n f : ℕ) (b b₁ : List ℕ) (was : IsImage b) (h : n ≡ refusal 
   moded-bytes : b₁ ≡ encode moded
   moded-bytes = put ∙ sym (flags-bytes v (decode b) ∙ ap (λ (x : List ℕ). wordPut x 8 v) (was .says))
 
-  few : v < 2 ^ 64
-  few =
-      let g : noMode (decode b) v ≡ false = unrefused-next (isUnfit b) _ 6 0 (sym h ∙ z) in
-      omega (arith, ltb-false 31 v (or-left (ltb 31 v) (pcide v && not (pg v)) (or-left _ _ g)))
-
   moded-sound : Sound moded
-  moded-sound =
-      let q : Sound (decode b) = was .sound in
-      record { width = q .width; flags = few; cr3 = q .cr3; victims = q .victims; tags = q .tags; datums = q .datums; beyond = q .beyond }
+  moded-sound = sound-flags v (decode b) (omega (arith, given b [] (writeMode v) (sym h ∙ z) .1)) (was .sound)
 
   pub mode-image : IsImage b₁
   mode-image = subst IsImage (sym moded-bytes) (is-encoded moded moded-sound)

@@ -1,21 +1,18 @@
 -- The ways through translate: a walk's finding is kept and answered; a held page serves, or goes and is walked for; a call is refused, or answered.
 use Prim.Native.Nat.{ℕ, zero, suc, _+_, _*_, _/_, _%_, _^_, _≤_, _<_}
 use mathlib.Core.Path.{_≡_, refl, ap, sym, _∙_, subst}
-use mathlib.Core.Bool.{Bool, true, false, cond, _&&_, not}
+use mathlib.Core.Bool.{Bool, true, false, _&&_}
 use mathlib.Core.List.{List}
 use native.Mathlib.Omega.{arith}
-use lib.Dec.{eqb, ltb}
 use lib.ListN.{length}
-use borrow.Author.Tests.{eqb-true, ltb-false}
 use Rattle.rules.specs.Bits.{AreBytes, isOn, part, wordAt}
 use Rattle.rules.specs.Sizes.{Is, is-small, is-middle, is-large, shift, sizeAt, sizeOf, pageNumber}
 use Rattle.rules.specs.Image.{Image, encode, decode, control, pg, pcid, tagOf, datumOf}
 use Rattle.rules.specs.Memory.{Memory, entryAt}
-use Rattle.rules.specs.Entries.{allows, everything}
-use Rattle.rules.specs.Walk.{End, reached, stuck, pageIf, judged, Walked, walk, reachIn, top}
+use Rattle.rules.specs.Walk.{Walked, walk, reachIn}
 use Rattle.rules.specs.Buffer.{matches, hit, miss, find, serves, hitAddress, dropped, filled}
 use Rattle.rules.specs.Answers.{code, answerOf}
-use Rattle.rules.specs.Refusals.{translate, isUnfit, noAddress, refusal}
+use Rattle.rules.specs.Refusals.{translate, refusal}
 use Rattle.rules.specs.Calls.{After, accessOf, served, servedIf, walked, looked, translated, Outcome, encoded, accepted, byNumber}
 use Rattle.rules.specs.declared.Size.{Size}
 use Rattle.rules.specs.declared.Control.{Control}
@@ -28,19 +25,18 @@ use Rattle.rules.specs.declared.Answer.{Answer}
 use Rattle.rules.specs.declared.Answer.the-variants.{Address, PageFault, Refused}
 use Rattle.rules.proofs.SizeLaws.{size-of, level-at, base-lt, base-low}
 use Rattle.rules.proofs.SlotLaws.{nothing-dropped}
-use Rattle.rules.proofs.WalkLaws.{LeafLevel, LeafBase, leaf-level, leaf-base}
+use Rattle.rules.proofs.WalkLaws.{IsLeaf, is-leaf, leaf-lt, found-cases}
 use Rattle.rules.proofs.PlaceLaws.{IsImage, width-at, flags-at, cr3-at, datum-at}
 use Rattle.walk.specs.Packed.{Ready}
 use Rattle.buffer.specs.declared.look.Place.{Place}
 use Rattle.buffer.specs.declared.look.Place.the-variants.{At, Nowhere}
 use Rattle.buffer.specs.Look.{hitOf, Looks}
 use Rattle.buffer.specs.Fill.{filledAt}
+use Rattle.rules.proofs.RefusalLaws.{Given, given, fit-image}
 use Rattle.drops.specs.Drops.{droppedIn}
 use Rattle.drops.proofs.DropLaws.{image-dropped, says-dropped}
 use Rattle.numbers.specs.Needs.{IsSpace}
 use Rattle.translator.specs.Contract.{Translates, Usable, Gives, missed, Fits, Finishes}
-use Rattle.refusals.proofs.Checks.{fit-wide, fit-narrow}
-use Rattle.translator.proofs.Calling.{fits, call-image}
 use Rattle.translator.proofs.Pages.{length-in}
 
 -- ---- what a walk goes by
@@ -67,22 +63,14 @@ walk-ready b mem c u h e =
     })
 
 -- ---- what a walk finds is in range
-judged-fits : (c : Control) (k : Access) (w : End) (n : ℕ) → LeafLevel w → LeafBase w → Fits (judged c k w n)
-judged-fits c k (reached p) n l h = go (allows c k (p .rights))
-  where
-    go : (b : Bool) → Fits (pageIf b k p n)
-    go true = (h .1, l)
-    go false = tt
-judged-fits c k (stuck cause level) n l h = tt
-
 pub found-fits : (b : List ℕ) (c : Control) (k : Access) (a : ℕ) (mem mem′ : Memory) (f : Found) → Usable b → c ≡ control (decode b)
     → _≡_ {A = Walked} (record { found = f; memory = mem′ }) (walk c k a mem) → Fits f
 found-fits b c k a mem mem′ f u e w =
     let narrow : c .width ≤ 52 = rw e (u .narrow) in
     let q : f ≡ walk c k a mem .found = ap (λ (x : Walked). x .found) w in
     subst Fits (sym q)
-    (judged-fits c k (reachIn mem c a .end) (reachIn mem c a .read)
-    (leaf-level (entryAt mem) c a (top c) (c .root) everything) (leaf-base (entryAt mem) c a (top c) (c .root) everything narrow))
+    (found-cases c k (reachIn mem c a .read) Fits (reachIn mem c a .end)
+    (λ p d g. let l : IsLeaf (entryAt mem) c p = is-leaf mem c a p d in (leaf-lt (entryAt mem) c p l narrow, (l .low, l .high))) (λ cause. tt))
 
 -- ---- what it finds is kept, and answered
 its-level : (z : Size) → Is z → sizeAt (z .level) ≡ z
@@ -206,23 +194,6 @@ space-dropped q b b₁ p u sp h =
     record { current = sp .current ∙ sym (ap pcid s); low = sp .low }
 
 -- ---- the call
-known-kind : (u : Bool) (k x : ℕ) → cond u 2 (cond (ltb 5 k) 3 x) ≡ 0 → k ≤ 5
-known-kind true k x h = absurd (omega arith)
-known-kind false k x h = ltb-false 5 k (go (ltb 5 k) h)
-  where
-    go : (o : Bool) → _≡_ {A = ℕ} (cond o 3 x) 0 → o ≡ false
-    go true e = absurd (omega arith)
-    go false e = refl
-
-whole-pages : (u v : Bool) (n x : ℕ) → cond u 2 (cond v 3 (cond (not (eqb n 0)) 4 x)) ≡ 0 → n ≡ 0
-whole-pages true v n x h = absurd (omega arith)
-whole-pages false true n x h = absurd (omega arith)
-whole-pages false false n x h = eqb-true n 0 (go (eqb n 0) h)
-  where
-    go : (o : Bool) → _≡_ {A = ℕ} (cond (not o) 4 x) 0 → o ≡ true
-    go true e = refl
-    go false e = absurd (omega arith)
-
 module _ (b : List ℕ) (mem : Memory) (k a n : ℕ) (h : n ≡ refusal b mem (translate k a)) where
   pub refuses-it : (n ≡ 0 → ⊥) → Translates (translate k a) b b mem mem (Refused n)
   refuses-it g = record { outcome = go n h g }
@@ -233,22 +204,17 @@ module _ (b : List ℕ) (mem : Memory) (k a n : ℕ) (h : n ≡ refusal b mem (t
       go (suc m) e f = ap (byNumber b mem (translate k a)) e
 
   module _ (z : n ≡ 0) where
-    fit : isUnfit b ≡ false
-    fit = fits (translate k a) b mem tt (sym h ∙ z)
+    was : Given b mem (translate k a)
+    was = given b mem (translate k a) (sym h ∙ z)
 
     pub use-image : AreBytes b → Usable b
-    use-image bytes =
-        record {
-          image = call-image (translate k a) b mem n tt bytes h z;
-          wide = fit-wide b (isUnfit b) refl fit;
-          narrow = fit-narrow b (isUnfit b) refl fit;
-        }
+    use-image bytes = record { image = fit-image b bytes (was .0); wide = was .0 .wide; narrow = was .0 .narrow }
 
     pub known : k ≤ 5
-    known = known-kind (isUnfit b) k _ (sym h ∙ z)
+    known = was .1
 
     pub whole : length mem % 8 ≡ 0
-    whole = omega (arith, whole-pages (isUnfit b) (ltb 5 k) (length mem % 4096) (cond (noAddress (decode b) a) 5 0) (sym h ∙ z))
+    whole = omega (arith, was .2)
 
     accepts-it : (b′ : List ℕ) (mem′ : Memory) (r : Answer) → _≡_ {A = Outcome} (record { answer = r; image = b′; memory = mem′ }) (encoded (accepted (decode b) mem (translate k a)))
         → Translates (translate k a) b b′ mem mem′ r

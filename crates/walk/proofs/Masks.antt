@@ -1,21 +1,22 @@
 -- What the code's conjunctions and masks say in the rules' terms: rights over entries, the reserved bits, the rights that an access needs. A mask is
 -- taken apart flag by flag, and what is left is an identity of Booleans.
-use Prim.Native.Nat.{ℕ, zero, suc, _+_, _-_, _*_, _/_, _%_, _^_, _≤_, _<_}
+use Prim.Native.Nat.{ℕ, _+_, _-_, _*_, _/_, _%_, _^_, _≤_, _<_}
 use mathlib.Core.Path.{_≡_, refl, ap, ap₂, sym, _∙_}
-use mathlib.Core.Bool.{Bool, true, false, _&&_, _||_, not, Bool·beq, and-eq-true-iff}
+use mathlib.Core.Bool.{Bool, true, false, _&&_, _||_, not}
 use native.Mathlib.Omega.{arith}
-use native.Mathlib.Nat.{mod-lt, zero-mul, zero-add, add-zero}
+use native.Mathlib.Nat.{zero-add, add-zero}
 use lib.Dec.{eqb}
-use lib.Pow.{pow-pos, split, field, mod-pow-add}
-use lib.Bits.{bitAnd, bitXor, and-shr, and-mod, and-block, and-high, and-mask, and-zero-r, xor-shr, xor-mod, xor-zero-r}
+use lib.Pow.{field, mod-pow-add}
+use lib.Bits.{bitAnd, bitXor, and-shr, and-mod, and-high, and-zero-r, xor-shr, xor-mod, xor-zero-r}
 use borrow.Author.Tests.{ne-eqb}
 use Rattle.rules.specs.Bits.{isOn, part, anyOn, one}
 use Rattle.rules.specs.Image.{wp, nxe}
 use Rattle.rules.specs.Entries.{everything, also, allows}
 use Rattle.rules.specs.declared.Control.{Control}
 use Rattle.rules.specs.declared.Access.{Access}
-use Rattle.rules.proofs.BitLaws.{bit-low, one-le, flag-back, odd-one, on-one}
-use Rattle.words.proofs.Masks.{same, and-flag}
+use Rattle.rules.proofs.BoolLaws.{same}
+use Rattle.rules.proofs.BitLaws.{bit-low, one-le, flag-back, on-one}
+use Rattle.words.proofs.Masks.{and-flag}
 use Rattle.walk.specs.Packed.{rightsOf, andIn, badOf, needOf, askOf, isAllowed, isWrite}
 
 -- ---- rights

@@ -21,6 +21,7 @@ use Rattle.rules.specs.declared.Control.{Control}
 use Rattle.rules.specs.declared.Access.{Access}
 use Rattle.rules.specs.declared.Rights.{Rights}
 use Rattle.rules.specs.declared.Cause.the-variants.{Protection}
+use Rattle.rules.proofs.BoolLaws.{or-left}
 use Rattle.rules.proofs.SizeLaws.{size-at, level-at, reserved-is}
 use Rattle.rules.proofs.WalkLaws.{reach-step, ended, endLevel}
 use Rattle.rules.proofs.MemoryLaws.{added-already, lacks-inside}
@@ -106,14 +107,6 @@ unused level e h g n =
 abbrev Wide : Control → ℕ → Bool
 Wide c e = anyOn 52 (c .width) e || (not (nxe (c .flags)) && isOn 63 e)
 
-or-left : (p q : Bool) → not (p || q) ≡ true → p ≡ false
-or-left true q h = sym h
-or-left false q h = refl
-
-or-false-left : (p q : Bool) → (p || q) ≡ false → p ≡ false
-or-false-left true q h = h
-or-false-left false q h = refl
-
 module _ (c : Control) (k : Access) (mask ask level e : ℕ) (f : Fits c k mask ask) where
   clear-is : eqb (bitAnd e mask) 0 ≡ not (Wide c e)
   clear-is = ap (λ (z : ℕ). eqb (bitAnd e z) 0) (f .bads) ∙ clear-test c e (f .narrow)
@@ -123,7 +116,7 @@ module _ (c : Control) (k : Access) (mask ask level e : ℕ) (f : Fits c k mask 
 
   -- so a part that the code cuts out up to bit 51 ends at the width
   narrow : eqb (bitAnd e mask) 0 ≡ true → part 52 (c .width) e ≡ 0
-  narrow b = eqb-true (part 52 (c .width) e) 0 (not-false (eqb (part 52 (c .width) e) 0) (or-left (anyOn 52 (c .width) e) _ (sym clear-is ∙ b)))
+  narrow b = eqb-true (part 52 (c .width) e) 0 (not-false (eqb (part 52 (c .width) e) 0) (or-left (anyOn 52 (c .width) e) _ (not-wide b)))
 
   says-wide : isOn 0 e ≡ true → eqb (bitAnd e mask) 0 ≡ false → says c level e ≡ bad
   says-wide p b =
@@ -199,7 +192,7 @@ module _ (mem : Memory) (x level base seen mask ask at e : ℕ) (pos : 0 < level
       at-page c k f mem′ n d false q below = go (allows c k rights) refl
         where
           less : level ≤ 3
-          less = omega (arith, eqb-false level 4 (or-false-left (eqb level 4) (anyOn (shift level) 13 e) q))
+          less = omega (arith, eqb-false level 4 (or-left (eqb level 4) (anyOn (shift level) 13 e) q))
 
           may : isAllowed s ask ≡ allows c k rights
           may = ap (isAllowed s) (f .asks) ∙ allow-test c k s ∙ ap (allows c k) rights-are
