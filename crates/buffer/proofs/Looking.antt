@@ -1,8 +1,8 @@
 -- What looking up finds, from what each function's calls tell it: a slot by its masked tag, the first of a set, of a size, of all, and the first match.
 -- A match is a page held that is one's own, so the first slot that holds the page is the first match wherever it is one's own (own-first).
-use Prim.Native.Nat.{ℕ, zero, suc, _+_, _*_, _/_, _%_, _≤_, _<_}
+use Prim.Native.Nat.{ℕ, zero, suc, _+_, _*_, _/_, _%_, _^_, _≤_, _<_}
 use mathlib.Core.Path.{_≡_, refl, ap, ap₂, sym, _∙_, subst}
-use mathlib.Core.Bool.{Bool, true, false, cond, _&&_, _||_, and-comm}
+use mathlib.Core.Bool.{Bool, true, false, cond, _&&_, _||_}
 use mathlib.Core.List.{List, [], _∷_, _++_}
 use native.Mathlib.Omega.{arith}
 use native.Mathlib.Nat.{add-zero}
@@ -10,28 +10,25 @@ use native.Mathlib.Numerals.{add-one, add-four, add-eight}
 use lib.Dec.{eqb}
 use lib.ListN.{length, getD, drop}
 use lib.Seq.{drop-cons}
-use lib.Bits.{bitAnd}
+use lib.Bits.{bitAnd, bitXor}
 use borrow.Author.Tests.{eq-eqb}
 use Rattle.rules.specs.Bits.{wordAt}
 use Rattle.rules.specs.Sizes.{small, middle, large, Is, sizeAt, pageNumber, setOf, ways}
-use Rattle.rules.specs.Image.{decode, pcid, isHeld, pageIn}
+use Rattle.rules.specs.Image.{decode, pcid, isHeld}
 use Rattle.rules.specs.Buffer.{contains, matches, Hit, hit, miss, first, allWays, find}
 use Rattle.rules.specs.declared.Size.{Size}
 use Rattle.rules.proofs.PlaceLaws.{tag-at}
 use Rattle.rules.proofs.SizeLaws.{size-at, set-lt, slot-size}
 use Rattle.buffer.specs.declared.look.Place.{Place}
 use Rattle.buffer.specs.declared.look.Place.the-variants.{At, Nowhere}
-use Rattle.sets.specs.Ways.{slotsOf, tagIn, tagsIn, anyHeld, isMasked}
+use Rattle.sets.specs.Ways.{slotsOf, tagIn, tagsIn, anyHeld}
 use Rattle.buffer.specs.Look.{hitOf, Right, Looks, isPage, isOf, holds, FirstHeld}
-use Rattle.sets.proofs.TagTests.{test-held, test-page}
+use Rattle.sets.proofs.TagTests.{test-same}
 use Rattle.sets.proofs.FourTags.{any-odd}
 
 -- ---- what is tested of a tag
-pub page-test : (b : List ℕ) (at n t : ℕ) → t ≡ wordAt b at → eqb (bitAnd t 0x3FFFFFFFFC001) (n * 0x4000 + 1) ≡ isPage n (wordAt b at)
-page-test b at n t e =
-    rw (← e)
-    (test-page 1 t (omega arith) n 1 (omega arith)
-    ∙ and-comm (eqb (pageIn t) n) (isMasked 1 1 t) ∙ ap (λ (x : Bool). x && eqb (pageIn t) n) (test-held t))
+pub page-test : (b : List ℕ) (at n t : ℕ) → n < 2 ^ 36 → t ≡ wordAt b at → eqb (bitAnd (bitXor t (n * 0x4000 + 1)) 0x3FFFFFFFFC001) 0 ≡ isPage n (wordAt b at)
+page-test b at n t h e = rw (← e) (test-same t n h)
 
 pub own-test : (b : List ℕ) (i p t : ℕ) → i < 100 → t ≡ wordAt b (32 + i * 16) → (eqb (t / 2 % 2) 1 || eqb (t / 4 % 4096) p) ≡ isOf p (tagIn b i)
 own-test b i p t h e = rw (tag-at b i h, ← e)

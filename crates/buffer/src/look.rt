@@ -27,7 +27,7 @@ fn is_page(image: &[u8], at: usize, number: u64) -> bool
     requires { ⌜ (at + 8 ≤ length (now image)) × (number < 2 ^ 36) ⌝ }
     ensures { λ r. ⌜ r ≡ isPage number (wordAt (now (image .entry)) at) ⌝ }
 {
-    words::read_word(image, at) & 0x0003_FFFF_FFFF_C001 == number * 0x4000 + 1
+    (words::read_word(image, at) ^ (number * 0x4000 + 1)) & 0x0003_FFFF_FFFF_C001 == 0
 }
 
 // Whether a slot is everybody's, or of that address space.

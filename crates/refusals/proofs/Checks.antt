@@ -1,9 +1,10 @@
 -- The ways through the checks: what each return has to show, from the tests on its way. The image's words are read where its parts stand.
-use Prim.Native.Nat.{ℕ, _+_, _/_, _%_, _^_, _≤_, _<_}
+use Prim.Native.Nat.{ℕ, _+_, _-_, _/_, _%_, _^_, _≤_, _<_}
 use mathlib.Core.Path.{_≡_, ap, sym, _∙_}
 use mathlib.Core.Bool.{Bool, true, false, cond, _&&_, _||_, not, and-true, or-true, or-false}
 use mathlib.Core.List.{List, []}
 use native.Mathlib.Omega.{arith}
+use native.Mathlib.Decide.{decLt}
 use native.Mathlib.Numerals.{add-one}
 use lib.ListN.{length, getD, take, drop, length-drop}
 use lib.Seq.{take-suc, take-all}
@@ -51,6 +52,18 @@ module _ (b : List ℕ) (o : Bool) (e : o ≡ isUnfit b) (h : o ≡ false) where
 
   pub fit-narrow : decode b .width ≤ 52
   fit-narrow = fit b (sym e ∙ h) .narrow
+
+-- ---- canonical: bits 63 to 47 make a number. All alike they make 0 or 2^17 - 1, and half of one more is then 0 or 2^16
+abbrev pub halves : ℕ → ℕ
+halves a = (a / 0x800000000000 + 1) / 2 % 0x10000
+
+pub alike : (a : ℕ) → a < 2 ^ 64 → (c : Control) → eqb (halves a) 0 ≡ canonical c a
+alike a h c = go (decLt a (2 ^ 47)) (decLt a (2 ^ 64 - 2 ^ 47))
+  where
+    go : Dec (a < 2 ^ 47) → Dec (a < 2 ^ 64 - 2 ^ 47) → eqb (halves a) 0 ≡ canonical c a
+    go (yes g) k = rw (lt-ltb a (2 ^ 47) g) (eq-eqb (halves a) 0 (omega arith))
+    go (no g) (yes k) = rw (le-ltb a (2 ^ 47) (omega arith), lt-leb (2 ^ 64 - 2 ^ 47) a k) (ne-eqb (halves a) 0 (λ e. omega arith))
+    go (no g) (no k) = rw (le-ltb a (2 ^ 47) (omega arith), le-leb (2 ^ 64 - 2 ^ 47) a (omega arith)) (eq-eqb (halves a) 0 (omega arith))
 
 -- ---- the conditions, over the words that were read
 module _ (b : List ℕ) (a f : ℕ) (hf : f ≡ wordAt b 8) where

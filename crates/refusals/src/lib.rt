@@ -44,10 +44,11 @@ fn is_unfit(image: &[u8]) -> bool
     is_outside(width) | (32 <= flags) | (0x4_0000_0000_0000 <= victims)
 }
 
+// Bits 63 to 47 as a number: all alike they make 0 or 2^17 - 1, and half of one more is then 0 or 2^16.
 pub fn is_canonical(a: u64) -> bool
     ensures { λ r. ⌜ ((c : Control) → r ≡ canonical c a) ⌝ }
 {
-    (a < 0x8000_0000_0000) | (0xFFFF_8000_0000_0000 <= a)
+    (a / 0x8000_0000_0000 + 1) / 2 % 0x1_0000 == 0
 }
 
 // The address's own refusal, or 0. Paging is asked once, and each answer goes its own way.

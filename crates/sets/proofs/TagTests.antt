@@ -6,7 +6,7 @@ use mathlib.Core.Bool.{Bool, true, false, _&&_, not}
 use native.Mathlib.Omega.{arith}
 use lib.Dec.{eqb}
 use lib.Pow.{shr-shr, mod-pow-add}
-use lib.Bits.{bitAnd, and-zero-r, and-mask, and-high, and-le-r}
+use lib.Bits.{bitAnd, bitXor, xor-add-and, xor-shr, xor-mod, xor-self, and-le-l, and-zero-r, and-mask, and-high, and-le-r}
 use borrow.Author.Tests.{eq-eqb, ne-eqb, eqb-true, eqb-false}
 use Rattle.rules.specs.Image.{isHeld, isGlobal, pcidIn, pageIn}
 use Rattle.rules.specs.Buffer.{others}
@@ -77,3 +77,21 @@ module _ (mask t : ℕ) (h : mask < 2 ^ 14) where
       rw (page-and, and-below 14 t mask h)
       (both-tests (pageIn t * 2 ^ 14 + bitAnd (t % 2 ^ 14) mask) (n * 0x4000 + want) (pageIn t) n (bitAnd (t % 2 ^ 14) mask) want
       (λ d e. omega arith) (λ d. omega arith) (λ d. omega arith))
+
+-- ---- where a tag differs from that of a page in use: nowhere under the mask of page number and held bit, if it is that page's and in use
+no-difference : (x y : ℕ) → bitXor x y ≡ 0 → x ≡ y
+no-difference x y e = omega (arith, xor-add-and x y, and-le-l x y, and-le-r x y)
+
+pub test-same : (t n : ℕ) → n < 2 ^ 36 → eqb (bitAnd (bitXor t (n * 0x4000 + 1)) 0x3FFFFFFFFC001) 0 ≡ (isHeld t && eqb (pageIn t) n)
+test-same t n h =
+    let w : (n * 0x4000 + 1) / 2 ^ 14 ≡ n = omega arith in
+    let m : n % 2 ^ 36 ≡ n = omega arith in
+    let page : pageIn (bitXor t (n * 0x4000 + 1)) ≡ bitXor (pageIn t) n = rw (xor-shr t (n * 0x4000 + 1) 14, w, xor-mod (t / 2 ^ 14) n 36, m) in
+    let v : (n * 0x4000 + 1) % 2 ^ 1 ≡ 1 = omega arith in
+    let low : bitXor t (n * 0x4000 + 1) % 2 ^ 14 % 2 ^ 1 ≡ bitXor t (n * 0x4000 + 1) % 2 ^ 1 = omega arith in
+    let held : bitAnd (bitXor t (n * 0x4000 + 1) % 2 ^ 14) 1 ≡ bitXor (t % 2 ^ 1) 1 =
+    and-mask (bitXor t (n * 0x4000 + 1) % 2 ^ 14) 1 ∙ low ∙ xor-mod t (n * 0x4000 + 1) 1 ∙ ap (bitXor (t % 2 ^ 1)) v in
+    let one : t / 2 ^ 0 % 2 ≡ t % 2 ^ 1 = omega arith in
+    rw (page-and 1 (bitXor t (n * 0x4000 + 1)) (omega arith), page, held, one)
+    (both-tests (bitXor (pageIn t) n * 2 ^ 14 + bitXor (t % 2 ^ 1) 1) 0 (t % 2 ^ 1) 1 (pageIn t) n (λ d e. rw (d, e, xor-self n))
+    (λ d. no-difference (t % 2 ^ 1) 1 (omega arith)) (λ d. no-difference (pageIn t) n (omega arith)))
