@@ -11,13 +11,13 @@ use lib.Seq.{length-take-le, take-at, drop-at, take-take, take-add, drop-drop, d
 use lib.Pow.{shl-exact}
 use borrow.Author.Tests.{lt-ltb, le-ltb}
 use Rattle.rules.specs.Bits.{isOn, bytesOf, wordAt, wordPut}
+use Rattle.rules.specs.Sizes.{slotsOf}
 use Rattle.rules.specs.Image.{Image, victim, movedOn, encode, decode}
 use Rattle.rules.specs.Buffer.{hit, miss, first, stored, withVictims}
 use Rattle.rules.proofs.WordLaws.{bytes-length}
 use Rattle.rules.proofs.ImageLaws.{Sound, victims-bytes, store-bytes, decode-encode}
 use Rattle.rules.proofs.PlaceLaws.{IsImage, tag-at, victims-at, is-encoded, sound-victims}
 use Rattle.rules.proofs.SoundLaws.{victim-parts, moved-lt}
-use Rattle.sets.specs.Ways.{slotsOf}
 use Rattle.buffer.specs.Fill.{isFree, IsLowest, slotPut, filledAt}
 
 -- ---- free_way: the ways below this one are in use

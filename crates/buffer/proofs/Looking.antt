@@ -13,7 +13,7 @@ use lib.Seq.{drop-cons}
 use lib.Bits.{bitAnd, bitXor}
 use borrow.Author.Tests.{eq-eqb}
 use Rattle.rules.specs.Bits.{wordAt}
-use Rattle.rules.specs.Sizes.{small, middle, large, Is, sizeAt, pageNumber, setOf, ways}
+use Rattle.rules.specs.Sizes.{small, middle, large, Is, sizeAt, pageNumber, setOf, ways, slotsOf}
 use Rattle.rules.specs.Image.{decode, pcid, isHeld}
 use Rattle.rules.specs.Buffer.{contains, matches, Hit, hit, miss, first, allWays, find}
 use Rattle.rules.specs.declared.Size.{Size}
@@ -21,7 +21,7 @@ use Rattle.rules.proofs.PlaceLaws.{tag-at}
 use Rattle.rules.proofs.SizeLaws.{size-at, set-lt, slot-size}
 use Rattle.buffer.specs.declared.look.Place.{Place}
 use Rattle.buffer.specs.declared.look.Place.the-variants.{At, Nowhere}
-use Rattle.sets.specs.Ways.{slotsOf, tagIn, tagsIn, anyHeld}
+use Rattle.sets.specs.Ways.{tagIn, tagsIn, anyHeld}
 use Rattle.buffer.specs.Look.{hitOf, Right, Looks, isPage, isOf, holds, FirstHeld}
 use Rattle.sets.proofs.TagTests.{test-same}
 use Rattle.sets.proofs.FourTags.{any-odd}

@@ -7,7 +7,7 @@ use lib.ListN.{take, drop}
 use lib.Dec.{ltb}
 use Rattle.rules.specs.Bits.{bytesOf}
 use Rattle.rules.specs.Image.{Image, isHeld}
-use Rattle.sets.specs.Ways.{slotsOf}
+use Rattle.rules.specs.Sizes.{slotsOf}
 use Rattle.rules.specs.Buffer.{Hit, hit, miss, first, put}
 
 abbrev pub isFree : Image → ℕ → Bool

@@ -4,11 +4,11 @@ use Prim.Native.Nat.{ℕ, zero, suc, _+_, _*_, _/_}
 use mathlib.Core.Path.{_≡_, refl, sym, subst}
 use mathlib.Core.Logic.{_⊎_, inl, inr}
 use mathlib.Core.Bool.{Bool, true, false, _||_, not}
-use mathlib.Core.List.{List, [], _∷_}
+use mathlib.Core.List.{List}
 use native.Mathlib.Omega.{arith}
 use lib.Dec.{eqb}
 use borrow.Author.Tests.{eqb-true}
-use Rattle.rules.specs.Sizes.{sizeAt, setOf, ways}
+use Rattle.rules.specs.Sizes.{sizeAt, setOf, slotsOf, ways}
 use Rattle.rules.specs.Image.{Slot, Image, none, decode, control, pg, pcid, isHeld, victim, movedOn}
 use Rattle.rules.specs.Memory.{Memory}
 use Rattle.rules.specs.Entries.{allows}
@@ -72,7 +72,7 @@ pub record Stores (s : Image) (mem : Memory) (k : Access) (a i v : ℕ) (p : Lea
   pub inSet : i / 4 ≡ setOf (sizeAt (p .level)) a
   pub victims : (v ≡ s .victims) ⊎ (v ≡ movedOn (setOf (sizeAt (p .level)) a) (s .victims))
 
-in-set : (n : ℕ) → AllOf (λ i. i / 4 ≡ n) (4 * n ∷ (4 * n + 1) ∷ (4 * n + 2) ∷ (4 * n + 3) ∷ [])
+in-set : (n : ℕ) → AllOf (λ i. i / 4 ≡ n) (slotsOf n)
 in-set n = omega arith
 
 module _ (s : Image) (mem : Memory) (k : Access) (a : ℕ) (C : Image → Type 0) (unfilled : C (cleared s a))

@@ -3,14 +3,14 @@
 use Prim.Native.Nat.{ℕ, zero, suc, _+_, _-_, _*_, _/_, _%_, _^_, _≤_, _<_, max}
 use mathlib.Core.Path.{_≡_, refl}
 use mathlib.Core.Bool.{Bool, true}
-use mathlib.Core.List.{[], _∷_, List·Memᴰ, List·Memᴰ·head, List·Memᴰ·tail, Memᴰ·append-left, Memᴰ·append-right}
+use mathlib.Core.List.{List·Memᴰ, List·Memᴰ·head, List·Memᴰ·tail, Memᴰ·append-left, Memᴰ·append-right}
 use native.Mathlib.Omega.{arith}
 use native.Mathlib.Nat.{add-comm, mod-lt, mod-eq-of-lt, mul-assoc, mul-mod-left, lt-of-lt-of-le}
 use lib.Dec.{ltb}
 use lib.Pow.{pow-pos, pow-mono, pow-add, high, shl-lt}
 use borrow.Author.Tests.{lt-ltb, le-ltb}
 use Rattle.rules.specs.Bits.{bit, field, part, one}
-use Rattle.rules.specs.Sizes.{shift, small, middle, large, Is, is-small, is-middle, is-large, sizeAt, pageNumber, setOf, ways, sizeOf}
+use Rattle.rules.specs.Sizes.{shift, small, middle, large, Is, is-small, is-middle, is-large, sizeAt, pageNumber, setOf, ways, sizeOf, slotsOf}
 use Rattle.rules.specs.Image.{isHeld, isGlobal, pcidIn, pageIn, tagOf, rightsIn, isDirty, datumOf}
 use Rattle.rules.specs.Buffer.{allWays}
 use Rattle.rules.specs.declared.Size.{Size}
@@ -36,6 +36,11 @@ level-at (suc (suc (suc (suc l)))) h g = absurd (omega arith)
 pub size-of : (i : ℕ) → Is (sizeOf i)
 size-of i = either Is (ltb (i / 4) 16) small _ (λ e. is-small) (λ e. either Is (ltb (i / 4) 24) middle large (λ f. is-middle) (λ f. is-large))
 
+pub length-in : (z : Size) → Is z → (1 ≤ z .length) × (z .length ≤ 2 ^ 30)
+length-in z is-small = (omega arith, omega arith)
+length-in z is-middle = (omega arith, omega arith)
+length-in z is-large = (omega arith, omega arith)
+
 pub length-is : (z : Size) → Is z → z .length ≡ 2 ^ shift (z .level)
 length-is z is-small = refl
 length-is z is-middle = refl
@@ -46,10 +51,13 @@ reserved-is z is-small = refl
 reserved-is z is-middle = refl
 reserved-is z is-large = refl
 
+pub set-small : (z : Size) (n : ℕ) → Is z → z .first + n % z .sets < 25
+set-small z n is-small = omega arith
+set-small z n is-middle = omega arith
+set-small z n is-large = omega arith
+
 pub set-lt : (z : Size) (a : ℕ) → Is z → setOf z a < 25
-set-lt z a is-small = omega arith
-set-lt z a is-middle = omega arith
-set-lt z a is-large = omega arith
+set-lt z a q = set-small z (pageNumber z a) q
 
 pub page-lt : (z : Size) (a : ℕ) → Is z → pageNumber z a < 2 ^ 36
 page-lt z a is-small = omega arith
@@ -71,7 +79,7 @@ slot-size z a i is-large h = rw (le-ltb (i / 4) 16 (omega arith), le-ltb (i / 4)
 pub in-ways : (z : Size) (a i : ℕ) → i / 4 ≡ setOf z a → List·Memᴰ i (ways z a)
 in-ways z a i h = go (setOf z a) (i % 4) h refl
   where
-    go : (n r : ℕ) → i / 4 ≡ n → i % 4 ≡ r → List·Memᴰ i (4 * n ∷ (4 * n + 1) ∷ (4 * n + 2) ∷ (4 * n + 3) ∷ [])
+    go : (n r : ℕ) → i / 4 ≡ n → i % 4 ≡ r → List·Memᴰ i (slotsOf n)
     go n zero g e = List·Memᴰ·head {x = 4 * n} (omega arith)
     go n (suc zero) g e = List·Memᴰ·tail (List·Memᴰ·head {x = 4 * n + 1} (omega arith))
     go n (suc (suc zero)) g e = List·Memᴰ·tail (List·Memᴰ·tail (List·Memᴰ·head {x = 4 * n + 2} (omega arith)))

@@ -39,8 +39,12 @@ abbrev pub setOf : Size → ℕ → ℕ
 setOf z a = z .first + pageNumber z a % z .sets
 
 -- a set's slots are its four ways, and slots are counted over all sets
+abbrev pub slotsOf : ℕ → List ℕ
+slotsOf set = (4 * set) ∷ (4 * set + 1) ∷ (4 * set + 2) ∷ (4 * set + 3) ∷ []
+
+-- those of the address's own set
 abbrev pub ways : Size → ℕ → List ℕ
-ways z a = (4 * setOf z a) ∷ (4 * setOf z a + 1) ∷ (4 * setOf z a + 2) ∷ (4 * setOf z a + 3) ∷ []
+ways z a = slotsOf (setOf z a)
 
 -- the size of the pages that slot i holds
 abbrev pub sizeOf : ℕ → Size

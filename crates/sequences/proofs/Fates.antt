@@ -14,7 +14,7 @@ use Rattle.rules.specs.Image.{Slot, Image, none, decode, control, pg, pge, pcid
 use Rattle.rules.specs.Memory.{Memory}
 use Rattle.rules.specs.Entries.{allows}
 use Rattle.rules.specs.Walk.{Leaf, reached, reachIn, walk}
-use Rattle.rules.specs.Buffer.{contains, Hit, hit, miss, find}
+use Rattle.rules.specs.Buffer.{contains, Hit, hit, miss, find, others as isPcids}
 use Rattle.rules.specs.Refusals.{Request, start, translate, invlpg, invpcid, writeCr3, writeMode, canonical}
 use Rattle.rules.specs.Calls.{After, accessOf, isSame, sameMode, withCr3, accepted}
 use Rattle.rules.proofs.BoolLaws.{and-left, and-right, refuted, same}
@@ -24,7 +24,7 @@ use Rattle.rules.proofs.SoundLaws.{call-says}
 use Rattle.sequences.specs.History.{History, image, Accepted}
 use Rattle.sequences.specs.Covers.{Who, global, others, areGlobal, areOf, samePage, pcidAfter, covers, covered, differ, changes}
 use Rattle.sequences.specs.Spans.{slotAnswers, isTranslate}
-use Rattle.sequences.specs.Claims.{isPcids, names, victimsAfter, Drops}
+use Rattle.sequences.specs.Claims.{names, victimsAfter, Drops}
 
 -- ---- drops
 pcid-after : (s : Image) (v : ℕ) → pcid (withCr3 (v % 2 ^ 63) s) ≡ pcidAfter s v

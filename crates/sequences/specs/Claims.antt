@@ -4,11 +4,10 @@ use mathlib.Core.Path.{_≡_}
 use mathlib.Core.Logic.{_⊎_}
 use mathlib.Core.Bool.{Bool, true, false, cond, _&&_, not}
 use mathlib.Core.List.{List}
-use lib.Dec.{eqb}
-use Rattle.rules.specs.Image.{Image, decode, control, pcid, pg, isGlobal, none, pcidIn}
+use Rattle.rules.specs.Image.{Image, decode, control, pcid, pg, isGlobal, none}
 use Rattle.rules.specs.Memory.{Memory}
 use Rattle.rules.specs.Walk.{Reach, Walked, reachIn, judged, walk}
-use Rattle.rules.specs.Buffer.{Hit, hit, miss, find, contains, matches}
+use Rattle.rules.specs.Buffer.{Hit, hit, miss, find, contains, matches, others as isPcids}
 use Rattle.rules.specs.Answers.{answerOf}
 use Rattle.rules.specs.Refusals.{translate, Request, start, invlpg, invpcid, writeCr3, writeMode, canonical, refusal}
 use Rattle.rules.specs.Calls.{accessOf, Outcome, call}
@@ -117,11 +116,7 @@ EqualityWorded =
 
 -- ---- drops, slot by slot: an operation leaves two zero words if it names the slot, and else the slot as it was; victim numbers stay through all but start. Of
 -- hand-made images too: of any 2,048 bytes that the call accepts
--- of space p, and not everybody's
-abbrev pub isPcids : ℕ → ℕ → Bool
-isPcids p t = eqb (pcidIn t) p && not (isGlobal t)
-
--- the call, accepted at image s, names slot i with tag t
+-- the call, accepted at image s, names slot i with tag t. What is a PCID's and not global is the rules' `others`
 abbrev pub names : Image → Request → ℕ → ℕ → Bool
 names s (start w) i t = true
 names s (translate k a) i t = false

@@ -7,10 +7,11 @@ use native.Mathlib.Omega.{arith}
 use lib.Dec.{eqb}
 use lib.Bits.{bitOr, or-mod}
 use Rattle.rules.specs.Bits.{wordAt}
+use Rattle.rules.specs.Sizes.{slotsOf}
 use Rattle.rules.specs.Image.{isHeld}
 use Rattle.rules.proofs.PlaceLaws.{tag-at}
 use Rattle.words.proofs.Masks.{zero-left, zero-right}
-use Rattle.sets.specs.Ways.{slotsOf, tagIn, tagsIn, anyHeld}
+use Rattle.sets.specs.Ways.{tagIn, tagsIn, anyHeld}
 
 -- ---- of two
 abbrev isOdd : ℕ → Bool

@@ -1,25 +1,19 @@
 -- What the code over a size asks of it, by the three cases.
-use Prim.Native.Nat.{ℕ, _+_, _%_, _<_}
+use Prim.Native.Nat.{ℕ, _<_}
 use mathlib.Core.Path.{_≡_}
 use native.Mathlib.Omega.{arith}
 use borrow.Author.Tests.{ne-eqb}
 use Rattle.rules.specs.Sizes.{small, middle, large, Is, is-small, is-middle, is-large, sizeAt}
 use Rattle.rules.specs.declared.Size.{Size}
+use Rattle.rules.proofs.SizeLaws.{length-in}
 
 pub length-pos : (z : Size) → Is z → 0 < z .length
-length-pos z is-small = omega arith
-length-pos z is-middle = omega arith
-length-pos z is-large = omega arith
+length-pos z q = length-in z q .0
 
 pub sets-pos : (z : Size) → Is z → 0 < z .sets
 sets-pos z is-small = omega arith
 sets-pos z is-middle = omega arith
 sets-pos z is-large = omega arith
-
-pub set-small : (z : Size) (n : ℕ) → Is z → z .first + n % z .sets < 25
-set-small z n is-small = omega arith
-set-small z n is-middle = omega arith
-set-small z n is-large = omega arith
 
 -- what `size` of each type gives is one of the three
 pub is-4k : (z : Size) → z ≡ small → Is z

@@ -6,10 +6,6 @@ use lib.Dec.{eqb}
 use lib.Bits.{bitAnd, bitOr}
 use Rattle.rules.specs.Image.{decode, isHeld}
 
--- the four slots of a set, for any size: `ways` of a page that stands there
-abbrev pub slotsOf : ℕ → List ℕ
-slotsOf set = (4 * set) ∷ (4 * set + 1) ∷ (4 * set + 2) ∷ (4 * set + 3) ∷ []
-
 abbrev pub tagIn : List ℕ → ℕ → ℕ
 tagIn b i = decode b .slots i .tag
 

@@ -4,18 +4,13 @@ use mathlib.Core.Path.{_≡_, sym, subst}
 use mathlib.Core.Bool.{Bool}
 use native.Mathlib.Omega.{arith}
 use native.Mathlib.Nat.{mod-lt}
-use Rattle.rules.specs.Sizes.{Is, is-small, is-middle, is-large, sizeAt}
+use Rattle.rules.specs.Sizes.{Is, sizeAt}
 use Rattle.rules.specs.declared.Size.{Size}
 use Rattle.rules.specs.declared.Rights.{Rights}
 use Rattle.rules.specs.declared.Found.{Found}
 use Rattle.rules.specs.declared.Found.the-variants.{Page}
-use Rattle.rules.proofs.SizeLaws.{size-at}
+use Rattle.rules.proofs.SizeLaws.{size-at, length-in}
 use Rattle.translator.specs.Contract.{Fits}
-
-pub length-in : (z : Size) → Is z → (1 ≤ z .length) × (z .length ≤ 2 ^ 30)
-length-in z is-small = (omega arith, omega arith)
-length-in z is-middle = (omega arith, omega arith)
-length-in z is-large = (omega arith, omega arith)
 
 module _ (f : Found) (base level n : ℕ) (r : Rights) (g d : Bool) (z : Size) (fits : Fits f) (e : f ≡ Page base level r g d n) (size : z ≡ sizeAt level) where
   page-fits : Fits (Page base level r g d n)

@@ -23,7 +23,7 @@ use Rattle.rules.specs.declared.Found.{Found}
 use Rattle.rules.specs.declared.Found.the-variants.{Page, Fault}
 use Rattle.rules.specs.declared.Answer.{Answer}
 use Rattle.rules.specs.declared.Answer.the-variants.{Address, PageFault, Refused}
-use Rattle.rules.proofs.SizeLaws.{size-of, level-at, base-lt, base-low}
+use Rattle.rules.proofs.SizeLaws.{size-of, level-at, base-lt, base-low, length-in}
 use Rattle.rules.proofs.SlotLaws.{nothing-dropped}
 use Rattle.rules.proofs.WalkLaws.{IsLeaf, is-leaf, leaf-lt, found-cases}
 use Rattle.rules.proofs.PlaceLaws.{IsImage, width-at, flags-at, cr3-at, datum-at}
@@ -37,7 +37,6 @@ use Rattle.drops.specs.Drops.{droppedIn}
 use Rattle.drops.proofs.DropLaws.{image-dropped, says-dropped}
 use Rattle.numbers.specs.Needs.{IsSpace}
 use Rattle.translator.specs.Contract.{Translates, Usable, Gives, missed, Fits, Finishes}
-use Rattle.translator.proofs.Pages.{length-in}
 
 -- ---- what a walk goes by
 pub over-root : (b : List ℕ) (w : ℕ) → Usable b → w ≡ wordAt b 0 → 12 ≤ w

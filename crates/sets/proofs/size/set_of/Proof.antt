@@ -1,7 +1,8 @@
 -- A size has a set at least, and the last of all is set 24.
 use mathlib.Core.Path.{refl}
 use native.Mathlib.Omega.{arith}
-use Rattle.sets.proofs.Sizes.{sets-pos, set-small}
+use Rattle.rules.proofs.SizeLaws.{set-small}
+use Rattle.sets.proofs.Sizes.{sets-pos}
 use Rattle.sets.proofs.size.set_of.Statement.{statement}
 use Rattle.sets.proofs.size.set_of.Tie as tie
 
