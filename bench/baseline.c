@@ -147,7 +147,7 @@ PART uint64_t use(uint8_t *image, uint8_t *answer, uint8_t *memory, size_t memor
     return answer_words(answer, PASTRULOW_ADDRESS, (data & (BIT(52) - BIT(length))) | (address & offset), BIT(length), 0);
 }
 
-/* The whole search, for an address whose page some slot holds for another address space. */
+/* The whole search, for an address whose page some slot holds for another PCID. */
 APART uint64_t search(uint8_t *image, uint8_t *answer, uint8_t *memory, size_t memory_len, uint64_t kind,
                       uint64_t address)
 {
@@ -163,7 +163,7 @@ APART uint64_t search(uint8_t *image, uint8_t *answer, uint8_t *memory, size_t m
     return walk_tables(image, answer, memory, memory_len, kind, address);
 }
 
-/* Answers from the first slot of a size that holds the page, if one does and it is this address space's. */
+/* Answers from the first slot of a size that holds the page, if one does and it is this PCID's. */
 #define TRY(length, wanted)                                                                                              \
     do {                                                                                                                 \
         const uint8_t *slot = first_with(set_of(image, address, length), wanted, mask);                                  \

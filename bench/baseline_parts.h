@@ -116,7 +116,7 @@ PART uint64_t page_of(uint64_t address, unsigned length)
     return length == 12 ? address << 2 & PAGE_FIELD : address >> (length - 14) & (BIT(62 - length) - BIT(14));
 }
 
-/* A slot of this page may be another address space's. */
+/* A slot of this page may be another PCID's. */
 PART bool is_ours(const uint8_t *image, uint64_t tag)
 {
     if (tag & GLOBAL)

@@ -12,15 +12,15 @@ use lib.Pow.{shl-exact}
 use borrow.Author.Tests.{lt-ltb, le-ltb}
 use Rattle.rules.specs.Bits.{isOn, bytesOf, wordAt, wordPut}
 use Rattle.rules.specs.Sizes.{slotsOf}
-use Rattle.rules.specs.Image.{Image, victim, movedOn, encode, decode}
+use Rattle.rules.specs.Image.{Image, victim, movedOn, encode, decode, Sound, IsImage}
 use Rattle.rules.specs.Buffer.{hit, miss, first, stored, withVictims}
 use Rattle.rules.proofs.WordLaws.{bytes-length}
-use Rattle.rules.proofs.ImageLaws.{Sound, victims-bytes, store-bytes, decode-encode}
-use Rattle.rules.proofs.PlaceLaws.{IsImage, tag-at, victims-at, is-encoded, sound-victims}
+use Rattle.rules.proofs.ImageLaws.{victims-bytes, store-bytes, decode-encode}
+use Rattle.rules.proofs.PlaceLaws.{tag-at, victims-at, is-encoded, sound-victims}
 use Rattle.rules.proofs.SoundLaws.{victim-parts, moved-lt}
 use Rattle.buffer.specs.Fill.{isFree, IsLowest, slotPut, filledAt}
 
--- ---- free_way: the ways below this one are in use
+-- ---- free_way: the ways below this one are held
 pub record Passed (s : Image) (set way : ℕ) : Type 0 where
   pub low : way ≤ 4
   pub same : first (isFree s) (slotsOf set) ≡ first (isFree s) (drop way (slotsOf set))

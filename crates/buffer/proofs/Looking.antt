@@ -22,12 +22,12 @@ use Rattle.rules.proofs.SizeLaws.{size-at, set-lt, slot-size}
 use Rattle.buffer.specs.declared.look.Place.{Place}
 use Rattle.buffer.specs.declared.look.Place.the-variants.{At, Nowhere}
 use Rattle.sets.specs.Ways.{tagIn, tagsIn, anyHeld}
-use Rattle.buffer.specs.Look.{hitOf, Right, Looks, isPage, isOf, holds, FirstHeld}
+use Rattle.buffer.specs.Look.{hitOf, Right, Looks, holdsPage, isOf, holds, FirstHeld}
 use Rattle.sets.proofs.TagTests.{test-same}
 use Rattle.sets.proofs.FourTags.{any-odd}
 
 -- ---- what is tested of a tag
-pub page-test : (b : List ℕ) (at n t : ℕ) → n < 2 ^ 36 → t ≡ wordAt b at → eqb (bitAnd (bitXor t (n * 0x4000 + 1)) 0x3FFFFFFFFC001) 0 ≡ isPage n (wordAt b at)
+pub page-test : (b : List ℕ) (at n t : ℕ) → n < 2 ^ 36 → t ≡ wordAt b at → eqb (bitAnd (bitXor t (n * 0x4000 + 1)) 0x3FFFFFFFFC001) 0 ≡ holdsPage n (wordAt b at)
 page-test b at n t h e = rw (← e) (test-same t n h)
 
 pub own-test : (b : List ℕ) (i p t : ℕ) → i < 100 → t ≡ wordAt b (32 + i * 16) → (eqb (t / 2 % 2) 1 || eqb (t / 4 % 4096) p) ≡ isOf p (tagIn b i)
@@ -39,7 +39,7 @@ module _ (b : List ℕ) (a : ℕ) (z : Size) (n s : ℕ) (is : Is z) (en : n ≡
   own-set = es ∙ ap (λ (x : ℕ). z .first + x % z .sets) en
 
   -- slot i of the set holds the page if the tag at its place says so
-  slot-holds : (i at : ℕ) (x y : Bool) → i / 4 ≡ s → at ≡ 32 + i * 16 → x ≡ isPage n (wordAt b at) → x ≡ y → holds b a i ≡ y
+  slot-holds : (i at : ℕ) (x y : Bool) → i / 4 ≡ s → at ≡ 32 + i * 16 → x ≡ holdsPage n (wordAt b at) → x ≡ y → holds b a i ≡ y
   slot-holds i at x y h k e t =
       let g : i / 4 ≡ setOf z a = h ∙ own-set in
       rw (slot-size z a i is g, eq-eqb (i / 4) (setOf z a) g, ← en, tag-at b i (omega (arith, set-lt z a is)), ← k) (sym e ∙ t)
@@ -56,28 +56,28 @@ module _ (b : List ℕ) (a : ℕ) (z : Size) (n s : ℕ) (is : Is z) (en : n ≡
   of-set r h g = subst (λ (y : ℕ). FirstHeld b a (4 * y ∷ (4 * y + 1) ∷ (4 * y + 2) ∷ (4 * y + 3) ∷ []) r) own-set (record { held = h; right = g })
 
   -- the way through the four tests that ends at the k-th
-  module _ (x₀ : Bool) (e₀ : x₀ ≡ isPage n (wordAt b (32 + 4 * s * 16))) where
+  module _ (x₀ : Bool) (e₀ : x₀ ≡ holdsPage n (wordAt b (32 + 4 * s * 16))) where
     slot-0 : (t : Bool) → x₀ ≡ t → holds b a (4 * s) ≡ t
     slot-0 t = slot-holds (4 * s) (32 + 4 * s * 16) x₀ t (omega arith) (omega arith) e₀
 
     pub way-0 : x₀ ≡ true → FirstHeld b a (ways z a) (At (4 * s) (z .length))
     way-0 t = of-set _ (rw (slot-0 true t)) (slot-right (4 * s) (omega arith))
 
-    module _ (f₀ : x₀ ≡ false) (x₁ : Bool) (e₁ : x₁ ≡ isPage n (wordAt b (32 + 4 * s * 16 + 16))) where
+    module _ (f₀ : x₀ ≡ false) (x₁ : Bool) (e₁ : x₁ ≡ holdsPage n (wordAt b (32 + 4 * s * 16 + 16))) where
       slot-1 : (t : Bool) → x₁ ≡ t → holds b a (4 * s + 1) ≡ t
       slot-1 t = slot-holds (4 * s + 1) (32 + 4 * s * 16 + 16) x₁ t (omega arith) (omega arith) e₁
 
       pub way-1 : x₁ ≡ true → FirstHeld b a (ways z a) (At (4 * s + 1) (z .length))
       way-1 t = of-set _ (rw (slot-0 false f₀, slot-1 true t)) (slot-right (4 * s + 1) (omega arith))
 
-      module _ (f₁ : x₁ ≡ false) (x₂ : Bool) (e₂ : x₂ ≡ isPage n (wordAt b (32 + 4 * s * 16 + 32))) where
+      module _ (f₁ : x₁ ≡ false) (x₂ : Bool) (e₂ : x₂ ≡ holdsPage n (wordAt b (32 + 4 * s * 16 + 32))) where
         slot-2 : (t : Bool) → x₂ ≡ t → holds b a (4 * s + 2) ≡ t
         slot-2 t = slot-holds (4 * s + 2) (32 + 4 * s * 16 + 32) x₂ t (omega arith) (omega arith) e₂
 
         pub way-2 : x₂ ≡ true → FirstHeld b a (ways z a) (At (4 * s + 2) (z .length))
         way-2 t = of-set _ (rw (slot-0 false f₀, slot-1 false f₁, slot-2 true t)) (slot-right (4 * s + 2) (omega arith))
 
-        module _ (f₂ : x₂ ≡ false) (x₃ : Bool) (e₃ : x₃ ≡ isPage n (wordAt b (32 + 4 * s * 16 + 48))) where
+        module _ (f₂ : x₂ ≡ false) (x₃ : Bool) (e₃ : x₃ ≡ holdsPage n (wordAt b (32 + 4 * s * 16 + 48))) where
           slot-3 : (t : Bool) → x₃ ≡ t → holds b a (4 * s + 3) ≡ t
           slot-3 t = slot-holds (4 * s + 3) (32 + 4 * s * 16 + 48) x₃ t (omega arith) (omega arith) e₃
 
@@ -87,7 +87,7 @@ module _ (b : List ℕ) (a : ℕ) (z : Size) (n s : ℕ) (is : Is z) (en : n ≡
           pub no-way : x₃ ≡ false → FirstHeld b a (ways z a) Nowhere
           no-way f₃ = of-set _ (rw (slot-0 false f₀, slot-1 false f₁, slot-2 false f₂, slot-3 false f₃)) tt
 
--- ---- where no slot is in use, none holds the page
+-- ---- where no slot is held, none holds the page
 none-holds : (b : List ℕ) (a : ℕ) (is : List ℕ) → anyHeld b is ≡ false → miss ≡ first (holds b a) is
 none-holds b a [] e = refl
 none-holds b a (i ∷ is) e = go (isHeld (tagIn b i)) e (none-holds b a is)
@@ -183,14 +183,14 @@ module _ (b : List ℕ) (a : ℕ) (r : Place) (h : FirstHeld b a (allWays a) r) 
       }
 
 -- ---- way by way: what is left to look at from the k-th on
-pub record Left (b : List ℕ) (a k : ℕ) : Type 0 where
+pub record Searched (b : List ℕ) (a k : ℕ) : Type 0 where
   pub few : k ≤ 12
   pub rest : find (decode b) a ≡ first (isMatch b a) (drop k (allWays a))
 
-pub left-all : (b : List ℕ) (a : ℕ) → Left b a 0
+pub left-all : (b : List ℕ) (a : ℕ) → Searched b a 0
 left-all b a = record { few = omega arith; rest = refl }
 
-pub look-end : (b : List ℕ) (a k : ℕ) → Left b a k → 12 ≤ k → Looks b a Nowhere
+pub look-end : (b : List ℕ) (a k : ℕ) → Searched b a k → 12 ≤ k → Looks b a Nowhere
 look-end b a k h g =
     let e : k ≡ 12 = omega (arith, h .few) in
     record { first = sym (h .rest ∙ ap (λ (x : ℕ). first (isMatch b a) (drop x (allWays a))) e); right = tt }
@@ -212,10 +212,10 @@ nth a (suc (suc (suc q))) r h g = absurd (omega arith)
 pub way-size : (k : ℕ) (z : Size) → k < 12 → z ≡ sizeAt (1 + k / 4) → Is z
 way-size k z h e = subst Is (sym e) (size-at (1 + k / 4) (omega arith) (omega arith))
 
-module _ (b : List ℕ) (a k : ℕ) (h : Left b a k) (g : k < 12) (z : Size) (ez : z ≡ sizeAt (1 + k / 4))
+module _ (b : List ℕ) (a k : ℕ) (h : Searched b a k) (g : k < 12) (z : Size) (ez : z ≡ sizeAt (1 + k / 4))
     (n s : ℕ) (en : n ≡ pageNumber z a) (es : s ≡ z .first + n % z .sets)
     (p : ℕ) (ep : p ≡ pcid (decode b)) (x y : Bool)
-    (ex : x ≡ isPage n (wordAt b (32 + (4 * s + k % 4) * 16))) (ey : y ≡ isOf p (tagIn b (4 * s + k % 4))) where
+    (ex : x ≡ holdsPage n (wordAt b (32 + (4 * s + k % 4) * 16))) (ey : y ≡ isOf p (tagIn b (4 * s + k % 4))) where
   this-way : getD (allWays a) k 0 ≡ 4 * s + k % 4
   this-way =
       let c : k % 4 + 4 * (k / 4) ≡ k = omega arith in
@@ -232,5 +232,5 @@ module _ (b : List ℕ) (a k : ℕ) (h : Left b a k) (g : k < 12) (z : Size) (ez
   look-found e =
       record { first = sym (decided true e); right = slot-right b a z n s (way-size k z g ez) en es (4 * s + k % 4) (omega arith) }
 
-  pub look-next : (x && y) ≡ false → Left b a (k + 1)
+  pub look-next : (x && y) ≡ false → Searched b a (k + 1)
   look-next e = record { few = omega arith; rest = decided false e }

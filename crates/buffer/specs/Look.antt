@@ -26,11 +26,11 @@ pub record Looks (b : List ℕ) (a : ℕ) (r : Place) : Type 0 where
   pub right : Right r
 
 -- ---- a match is a page that is held and is one's own
--- in use, and of the page of that number
-abbrev pub isPage : ℕ → ℕ → Bool
-isPage n t = isHeld t && eqb (pageIn t) n
+-- held, and of the page of that number
+abbrev pub holdsPage : ℕ → ℕ → Bool
+holdsPage n t = isHeld t && eqb (pageIn t) n
 
--- everybody's, or of address space p
+-- global, or of PCID p
 abbrev pub isOf : ℕ → ℕ → Bool
 isOf p t = isGlobal t || eqb (pcidIn t) p
 

@@ -2,9 +2,8 @@
 ghost use mathlib.Core.Path.{_≡_};
 ghost use Prim.Native.Nat.{_+_, _*_, _<_};
 ghost use lib.ListN.{length};
-ghost use Rattle.rules.specs.Image.{victim as victimOf, movedOn, encode, decode};
+ghost use Rattle.rules.specs.Image.{victim as victimOf, movedOn, encode, decode, IsImage};
 ghost use Rattle.rules.specs.Buffer.{stored};
-ghost use Rattle.rules.proofs.PlaceLaws.{IsImage};
 ghost use Rattle.buffer.specs.Fill.{IsLowest, slotPut, filledAt};
 
 // The lowest free way of a set, or 4.

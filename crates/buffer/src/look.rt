@@ -1,5 +1,5 @@
 // Looking up: the first slot that matches an address. The first that holds its page is found by one masked compare a way, and whose it is is tested
-// on that slot alone; only where it is another address space's are all ways gone through.
+// on that slot alone; only where it is another PCID's are all ways gone through.
 ghost use mathlib.Core.Path.{_≡_};
 ghost use Prim.Native.Nat.{_+_, _^_, _≤_, _<_};
 ghost use lib.ListN.{length};
@@ -8,7 +8,7 @@ ghost use Rattle.rules.specs.Sizes.{Is, ways};
 ghost use Rattle.rules.specs.Image.{decode, pcid as pcidOf};
 ghost use Rattle.rules.specs.Buffer.{allWays};
 ghost use Rattle.sets.specs.Ways.{tagIn, anyHeld};
-ghost use Rattle.buffer.specs.Look.{Looks, isPage, isOf, FirstHeld};
+ghost use Rattle.buffer.specs.Look.{Looks, holdsPage, isOf, FirstHeld};
 use rules::Size;
 use sets::size;
 use sets::size::Page1G;
@@ -22,15 +22,15 @@ pub enum Place {
     Nowhere,
 }
 
-// Whether the tag at a place is in use and of the page of that number: one compare, of both fields where they stand.
-fn is_page(image: &[u8], at: usize, number: u64) -> bool
+// Whether the tag at a place is held and of the page of that number: one compare, of both fields where they stand.
+fn holds_page(image: &[u8], at: usize, number: u64) -> bool
     requires { ⌜ (at + 8 ≤ length (now image)) × (number < 2 ^ 36) ⌝ }
-    ensures { λ r. ⌜ r ≡ isPage number (wordAt (now (image .entry)) at) ⌝ }
+    ensures { λ r. ⌜ r ≡ holdsPage number (wordAt (now (image .entry)) at) ⌝ }
 {
     (words::read_word(image, at) ^ (number * 0x4000 + 1)) & 0x0003_FFFF_FFFF_C001 == 0
 }
 
-// Whether a slot is everybody's, or of that address space.
+// Whether a slot is global, or of that PCID.
 fn is_of(image: &[u8], i: usize, pcid: u64) -> bool
     requires { ⌜ (length (now image) ≡ 2048) × (i < 100) ⌝ }
     ensures { λ r. ⌜ r ≡ isOf pcid (tagIn (now (image .entry)) i) ⌝ }
@@ -47,22 +47,22 @@ fn held_of(image: &[u8], z: Size, a: u64) -> Place
     let number = size::page_number(z, a);
     let i = 4 * size::set_of(z, number) as usize;
     let at = 32 + i * 16;
-    if is_page(image, at, number) {
+    if holds_page(image, at, number) {
         return Place::At(i, z.length);
     }
-    if is_page(image, at + 16, number) {
+    if holds_page(image, at + 16, number) {
         return Place::At(i + 1, z.length);
     }
-    if is_page(image, at + 32, number) {
+    if holds_page(image, at + 32, number) {
         return Place::At(i + 2, z.length);
     }
-    if is_page(image, at + 48, number) {
+    if holds_page(image, at + 48, number) {
         return Place::At(i + 3, z.length);
     }
     Place::Nowhere
 }
 
-// Whether one of the four ways of the address's set for a size is in use.
+// Whether one of the four ways of the address's set for a size is held.
 fn any_in(image: &[u8], z: Size, a: u64) -> bool
     requires { ⌜ (length (now image) ≡ 2048) × Is z ⌝ }
     ensures { λ r. ⌜ r ≡ anyHeld (now (image .entry)) (ways z a) ⌝ }
@@ -107,7 +107,7 @@ fn look_all(image: &[u8], a: u64, pcid: u64) -> Place
         let z = size::size_at(1 + k / 4);
         let number = size::page_number(z, a);
         let i = (4 * size::set_of(z, number) + k % 4) as usize;
-        if is_page(image, 32 + i * 16, number) & is_of(image, i, pcid) {
+        if holds_page(image, 32 + i * 16, number) & is_of(image, i, pcid) {
             return Place::At(i, z.length);
         }
         k += 1;

@@ -12,10 +12,10 @@ use lib.Seq.{take-take, drop-drop}
 use lib.Dec.{leb, ltb, eqb}
 use borrow.Author.Tests.{lt-ltb, le-ltb, le-leb, lt-leb, eqb-true, eqb-false}
 use Rattle.rules.specs.Bits.{word, wordAt}
-use Rattle.rules.specs.Image.{Slot, Image, none, encode, decode}
+use Rattle.rules.specs.Image.{Slot, Image, none, encode, decode, IsImage}
 use Rattle.rules.specs.Buffer.{droppedIf, dropped, stored}
 use Rattle.rules.proofs.ImageLaws.{decode-encode, store-bytes}
-use Rattle.rules.proofs.PlaceLaws.{IsImage, tag-at, is-encoded, sound-dropped}
+use Rattle.rules.proofs.PlaceLaws.{tag-at, is-encoded, sound-dropped}
 use Rattle.drops.specs.Drops.{droppedIn}
 
 -- ---- images

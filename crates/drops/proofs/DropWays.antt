@@ -12,16 +12,15 @@ use lib.Bits.{bitAnd, and-zero-l}
 use borrow.Author.Tests.{eq-eqb, ne-eqb, eqb-true}
 use Rattle.rules.specs.Bits.{wordAt, wordPut}
 use Rattle.rules.specs.Sizes.{small, middle, large, pageNumber, setOf}
-use Rattle.rules.specs.Image.{isHeld, isGlobal, pcidIn, pageIn}
+use Rattle.rules.specs.Image.{isHeld, isGlobal, pcidIn, pageIn, IsImage}
 use Rattle.rules.specs.Buffer.{contains, matches}
 use Rattle.rules.specs.declared.Size.{Size}
 use Rattle.rules.proofs.BoolLaws.{same}
-use Rattle.rules.proofs.PlaceLaws.{IsImage}
 use Rattle.sets.specs.Ways.{tagIn, tagsIn, isMasked}
-use Rattle.drops.specs.Drops.{droppedIn, every, notGlobal, ofSpace, ofSpaceAt, isAsked, masked, maskedFrom, maskedIn, maskedOf, maskedAt, slotLeft}
+use Rattle.drops.specs.Drops.{droppedIn, every, notGlobal, everyOf, everyOfAt, isAsked, masked, maskedFrom, maskedIn, maskedOf, maskedAt, slotLeft}
 use Rattle.drops.proofs.DropLaws.{twice-dropped, dropped-as, dropped-alike, from-none, from-all, from-more}
 use Rattle.drops.proofs.SetTests.{in-set, one-set-more, any-size}
-use Rattle.sets.proofs.TagTests.{test-nothing, test-not-global, test-others, test-held, test-global, test-space, test-page}
+use Rattle.sets.proofs.TagTests.{test-nothing, test-not-global, test-of-pcid, test-held, test-global, test-pcid, test-page}
 use Rattle.sets.proofs.FourTags.{all-zero}
 
 -- ---- the second compare
@@ -116,8 +115,8 @@ everything-dropped b b′ e = e ∙ dropped-alike (masked 0 0) every b (λ i. te
 pub not-global-dropped : (b b′ : List ℕ) → b′ ≡ droppedIn (masked 2 0) b → b′ ≡ droppedIn notGlobal b
 not-global-dropped b b′ e = e ∙ dropped-alike (masked 2 0) notGlobal b (λ i. test-not-global)
 
-pub others-dropped : (b b′ : List ℕ) (p : ℕ) → b′ ≡ droppedIn (masked 0x3FFE (p * 4)) b → b′ ≡ droppedIn (ofSpace p) b
-others-dropped b b′ p e = e ∙ dropped-alike (masked 0x3FFE (p * 4)) (ofSpace p) b (λ i. test-others p)
+pub pcid-dropped : (b b′ : List ℕ) (p : ℕ) → b′ ≡ droppedIn (masked 0x3FFE (p * 4)) b → b′ ≡ droppedIn (everyOf p) b
+pcid-dropped b b′ p e = e ∙ dropped-alike (masked 0x3FFE (p * 4)) (everyOf p) b (λ i. test-of-pcid p)
 
 -- ---- drop_page
 pub page-dropped : (z : Size) (b b′ : List ℕ) (a page set mask want own whose : ℕ) → mask < 0x4000 → want < 0x4000
@@ -146,11 +145,11 @@ pub matches-dropped : (b b′ : List ℕ) (a p : ℕ) → b′ ≡ droppedIn (ma
 matches-dropped b b′ a p e =
     e
     ∙ dropped-alike (maskedAt a 1 1 0x3FFC (p * 4)) (matches p a) b
-    (λ i t. rw (test-held t, test-space p t)
+    (λ i t. rw (test-held t, test-pcid p t)
     (same 3 (λ h c o. c && (h && o)) (λ h c o. h && c && o) refl (isHeld t) (contains a i t) (isGlobal t || eqb (pcidIn t) p)))
 
-pub address-dropped : (b b′ : List ℕ) (a p : ℕ) → b′ ≡ droppedIn (maskedAt a 0x3FFE (p * 4) 0 0) b → b′ ≡ droppedIn (ofSpaceAt p a) b
+pub address-dropped : (b b′ : List ℕ) (a p : ℕ) → b′ ≡ droppedIn (maskedAt a 0x3FFE (p * 4) 0 0) b → b′ ≡ droppedIn (everyOfAt p a) b
 address-dropped b b′ a p e =
     e
-    ∙ dropped-alike (maskedAt a 0x3FFE (p * 4) 0 0) (ofSpaceAt p a) b
-    (λ i t. ap (λ (c : Bool). contains a i t && c) (asks-nothing 0x3FFE (p * 4) t ∙ test-others p t))
+    ∙ dropped-alike (maskedAt a 0x3FFE (p * 4) 0 0) (everyOfAt p a) b
+    (λ i t. ap (λ (c : Bool). contains a i t && c) (asks-nothing 0x3FFE (p * 4) t ∙ test-of-pcid p t))

@@ -1,4 +1,4 @@
--- Drops in an image's bytes, and the one test that the code makes of a tag: its bits under a mask are those wanted, and, unless it is everybody's, so are
+-- Drops in an image's bytes, and the one test that the code makes of a tag: its bits under a mask are those wanted, and, unless it is global, so are
 -- its bits under a second one.
 use Prim.Native.Nat.{ℕ, _/_}
 use mathlib.Core.Bool.{Bool, true, cond, _&&_, _||_, not}
@@ -8,7 +8,7 @@ use lib.Dec.{leb, ltb, eqb}
 use Rattle.rules.specs.Bits.{wordAt}
 use Rattle.rules.specs.Sizes.{pageNumber, setOf}
 use Rattle.rules.specs.Image.{encode, decode, isGlobal, pageIn}
-use Rattle.rules.specs.Buffer.{contains, others, dropped}
+use Rattle.rules.specs.Buffer.{contains, ofPcid, dropped}
 use Rattle.rules.specs.declared.Size.{Size}
 use Rattle.sets.specs.Ways.{isMasked}
 
@@ -23,14 +23,14 @@ every i t = true
 abbrev pub notGlobal : ℕ → ℕ → Bool
 notGlobal i t = not (isGlobal t)
 
-abbrev pub ofSpace : ℕ → ℕ → ℕ → Bool
-ofSpace p i t = others p t
+abbrev pub everyOf : ℕ → ℕ → ℕ → Bool
+everyOf p i t = ofPcid p t
 
-abbrev pub ofSpaceAt : ℕ → ℕ → ℕ → ℕ → Bool
-ofSpaceAt p a i t = contains a i t && others p t
+abbrev pub everyOfAt : ℕ → ℕ → ℕ → ℕ → Bool
+everyOfAt p a i t = contains a i t && ofPcid p t
 
 -- ---- the tests of the code
--- as wanted under a mask; and everybody's, or under a second mask as asked for: a second mask of 0 with 0 asks nothing
+-- as wanted under a mask; and global, or under a second mask as asked for: a second mask of 0 with 0 asks nothing
 abbrev pub isAsked : ℕ → ℕ → ℕ → ℕ → ℕ → Bool
 isAsked mask want own whose t = isMasked mask want t && (isGlobal t || isMasked own whose t)
 

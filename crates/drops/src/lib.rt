@@ -1,12 +1,12 @@
 // Dropping in the image's bytes: whatever a drop goes by, it is a compare of the tag under a mask, over a range of slots; and a second one, of whose it is,
-// that everybody's tags need not pass.
+// that global tags need not pass.
 ghost use mathlib.Core.Path.{_≡_};
 ghost use Prim.Native.Nat.{_≤_, _<_};
 ghost use lib.ListN.{length};
 ghost use Rattle.rules.specs.Sizes.{Is};
+ghost use Rattle.rules.specs.Image.{IsImage};
 ghost use Rattle.rules.specs.Buffer.{matches};
-ghost use Rattle.rules.proofs.PlaceLaws.{IsImage};
-ghost use Rattle.drops.specs.Drops.{droppedIn, every, notGlobal, ofSpace, ofSpaceAt, masked, maskedFrom, maskedIn, maskedOf, maskedAt, slotLeft};
+ghost use Rattle.drops.specs.Drops.{droppedIn, every, notGlobal, everyOf, everyOfAt, masked, maskedFrom, maskedIn, maskedOf, maskedAt, slotLeft};
 use rules::Size;
 use sets::size;
 use sets::size::Page1G;
@@ -14,7 +14,7 @@ use sets::size::Page2M;
 use sets::size::Page4K;
 use sets::tags;
 
-// The slot's sixteen bytes become zero if its tag under the mask is the one wanted, and is everybody's or under the other mask says whose.
+// The slot's sixteen bytes become zero if its tag under the mask is the one wanted, and is global or under the other mask says whose.
 fn drop_slot(slot: &mut [u8], mask: u64, want: u64, own: u64, whose: u64)
     requires { ⌜ length (now slot) ≡ 16 ⌝ }
     ensures { λ _. ⌜ now (slot .exit) ≡ slotLeft mask want own whose (now (slot .entry)) ⌝ }
@@ -91,10 +91,10 @@ pub fn drop_not_global(image: &mut [u8])
     sweep(image, 2, 0);
 }
 
-// INVPCID of type 1, and a CR3 write: bits 13 down to 1 are the address space and, below it, everybody's.
-pub fn drop_others(image: &mut [u8], pcid: u64)
+// INVPCID of type 1, and a CR3 write: bits 13 down to 1 are the PCID and, below it, global.
+pub fn drop_pcid(image: &mut [u8], pcid: u64)
     requires { ⌜ IsImage (now image) × (pcid < 4096) ⌝ }
-    ensures { λ _. ⌜ now (image .exit) ≡ droppedIn (ofSpace pcid) (now (image .entry)) ⌝ }
+    ensures { λ _. ⌜ now (image .exit) ≡ droppedIn (everyOf pcid) (now (image .entry)) ⌝ }
 {
     sweep(image, 0x3FFE, pcid * 4);
 }
@@ -126,7 +126,7 @@ fn drop_at(image: &mut [u8], a: u64, mask: u64, want: u64, own: u64, whose: u64)
     drop_page(image, Page1G::size(), a, mask, want, own, whose);
 }
 
-// INVLPG, and a walk before it fills: what is held for the address and is everybody's or of the address space.
+// INVLPG, and a walk before it fills: what is held for the address and is global or of the PCID.
 pub fn drop_matches(image: &mut [u8], a: u64, pcid: u64)
     requires { ⌜ IsImage (now image) × (pcid < 4096) ⌝ }
     ensures { λ _. ⌜ now (image .exit) ≡ droppedIn (matches pcid a) (now (image .entry)) ⌝ }
@@ -137,7 +137,7 @@ pub fn drop_matches(image: &mut [u8], a: u64, pcid: u64)
 // INVPCID of type 0.
 pub fn drop_address(image: &mut [u8], a: u64, pcid: u64)
     requires { ⌜ IsImage (now image) × (pcid < 4096) ⌝ }
-    ensures { λ _. ⌜ now (image .exit) ≡ droppedIn (ofSpaceAt pcid a) (now (image .entry)) ⌝ }
+    ensures { λ _. ⌜ now (image .exit) ≡ droppedIn (everyOfAt pcid a) (now (image .entry)) ⌝ }
 {
     drop_at(image, a, 0x3FFE, pcid * 4, 0, 0);
 }

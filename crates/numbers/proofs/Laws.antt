@@ -20,7 +20,7 @@ use Rattle.rules.proofs.BoolLaws.{same}
 use Rattle.rules.proofs.BitLaws.{one-le, on-one}
 use Rattle.rules.proofs.PlaceLaws.{flags-at, cr3-at}
 use Rattle.words.proofs.Masks.{and-one, and-flag}
-use Rattle.numbers.specs.Needs.{IsSpace, neededFrom, neededOf}
+use Rattle.numbers.specs.Needs.{IsPcid, neededFrom, neededOf}
 
 -- ---- the access, by its kind
 pub access-is : (k : ℕ) → k ≤ 5
@@ -33,15 +33,15 @@ access-is (suc (suc (suc (suc zero)))) h = refl
 access-is (suc (suc (suc (suc (suc zero))))) h = refl
 access-is (suc (suc (suc (suc (suc (suc k)))))) h = absurd (omega arith)
 
--- ---- the current address space
-pub spaced : (b : List ℕ) (f r : ℕ) (k : Bool) → f ≡ wordAt b 8 → r ≡ wordAt b 16 → k ≡ isOn 3 f → k ≡ true
-    → IsSpace b (r % 4096)
-spaced b f r k hf hr hk t =
+-- ---- the current PCID
+pub pcid-on : (b : List ℕ) (f r : ℕ) (k : Bool) → f ≡ wordAt b 8 → r ≡ wordAt b 16 → k ≡ isOn 3 f → k ≡ true
+    → IsPcid b (r % 4096)
+pcid-on b f r k hf hr hk t =
     let e : r / 1 % 4096 ≡ r % 4096 = omega arith in
     record { current = rw (flags-at b, cr3-at b, ← hf, ← hr, ← hk, t, e); low = omega arith }
 
-pub spaceless : (b : List ℕ) (f : ℕ) (k : Bool) → f ≡ wordAt b 8 → k ≡ isOn 3 f → k ≡ false → IsSpace b 0
-spaceless b f k hf hk t = record { current = rw (flags-at b, ← hf, ← hk, t); low = omega arith }
+pub pcid-off : (b : List ℕ) (f : ℕ) (k : Bool) → f ≡ wordAt b 8 → k ≡ isOn 3 f → k ≡ false → IsPcid b 0
+pcid-off b f k hf hk t = record { current = rw (flags-at b, ← hf, ← hk, t); low = omega arith }
 
 -- ---- rights: what an access needs is read off one number, and is a conjunction of the datum's bits
 needed-by : (p : Bool) (k : ℕ) → k ≤ 5 → (0x6B2480 + one p * 16) / 2 ^ (4 * k) % 16 ≡ neededFrom p (accessOf k)

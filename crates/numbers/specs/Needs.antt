@@ -1,4 +1,4 @@
--- What a call asks of the image's numbers: its address space, and what an access needs of a held page.
+-- What a call asks of the image's numbers: its PCID, and what an access needs of a held page.
 use Prim.Native.Nat.{ℕ, _+_, _*_, _<_}
 use mathlib.Core.Path.{_≡_}
 use mathlib.Core.Bool.{Bool, _&&_, _||_}
@@ -7,8 +7,8 @@ use Rattle.rules.specs.Bits.{one}
 use Rattle.rules.specs.Image.{decode, pcid, wp}
 use Rattle.rules.specs.declared.Access.{Access}
 
--- the image's current address space, one of 4,096
-pub record IsSpace (b : List ℕ) (p : ℕ) : Type 0 where
+-- the image's current PCID, one of 4,096
+pub record IsPcid (b : List ℕ) (p : ℕ) : Type 0 where
   pub current : p ≡ pcid (decode b)
   pub low : p < 4096
 

@@ -1,4 +1,4 @@
-// The numbers of a call: the access kind, the address space, a slot's two words, whether a held page serves and its address, the code of a fault.
+// The numbers of a call: the access kind, the PCID, a slot's two words, whether a held page serves and its address, the code of a fault.
 ghost use mathlib.Core.Path.{_≡_};
 ghost use lib.ListN.{length};
 ghost use Prim.Native.Nat.{_+_, _*_, _/_, _%_, _^_, _≤_, _<_};
@@ -7,7 +7,7 @@ ghost use Rattle.rules.specs.Buffer.{serves as servesOf};
 ghost use Rattle.rules.specs.Answers.{code as codeOf};
 ghost use Rattle.rules.specs.Calls.{accessOf};
 ghost use Rattle.rules.specs.declared.Control.{Control as ControlOf};
-ghost use Rattle.numbers.specs.Needs.{IsSpace, neededOf};
+ghost use Rattle.numbers.specs.Needs.{IsPcid, neededOf};
 use rules::Access;
 use rules::Cause;
 use rules::Rights;
@@ -23,10 +23,10 @@ pub fn access_of(kind: u64) -> Access
     }
 }
 
-// The current address space.
+// The current PCID.
 pub fn pcid_of(image: &[u8]) -> u64
     requires { ⌜ length (now image) ≡ 2048 ⌝ }
-    ensures { λ r. ⌜ IsSpace (now (image .entry)) r ⌝ }
+    ensures { λ r. ⌜ IsPcid (now (image .entry)) r ⌝ }
 {
     if words::is_on(3, words::read_word(image, 8)) {
         return words::read_word(image, 16) % 4096;
@@ -34,11 +34,11 @@ pub fn pcid_of(image: &[u8]) -> u64
     0
 }
 
-pub fn tag_of(global: bool, space: u64, page: u64) -> u64
-    requires { ⌜ (space < 4096) × (page < 2 ^ 36) ⌝ }
-    ensures { λ r. ⌜ r ≡ tagOf global space page ⌝ }
+pub fn tag_of(global: bool, pcid: u64, page: u64) -> u64
+    requires { ⌜ (pcid < 4096) × (page < 2 ^ 36) ⌝ }
+    ensures { λ r. ⌜ r ≡ tagOf global pcid page ⌝ }
 {
-    1 + 2 * words::one(global) + 4 * space + 0x4000 * page
+    1 + 2 * words::one(global) + 4 * pcid + 0x4000 * page
 }
 
 pub fn datum_of(r: Rights, dirty: bool, base: u64) -> u64
@@ -70,12 +70,12 @@ pub fn serves(flags: u64, kind: u64, d: u64) -> bool
     d & need == need
 }
 
-// The physical address of a hit in a page of a length.
-pub fn hit_address(d: u64, a: u64, length: u64) -> u64
-    requires { ⌜ (1 ≤ length) × (length ≤ 2 ^ 30) ⌝ }
-    ensures { λ r. ⌜ r ≡ d % 2 ^ 52 / length * length + a % length ⌝ }
+// The physical address of a hit in a page of so many bytes.
+pub fn hit_address(d: u64, a: u64, size: u64) -> u64
+    requires { ⌜ (1 ≤ size) × (size ≤ 2 ^ 30) ⌝ }
+    ensures { λ r. ⌜ r ≡ d % 2 ^ 52 / size * size + a % size ⌝ }
 {
-    d % 0x10_0000_0000_0000 / length * length + a % length
+    d % 0x10_0000_0000_0000 / size * size + a % size
 }
 
 // A page fault's code.

@@ -5,7 +5,6 @@ use mathlib.Core.List.{List, []}
 use native.Mathlib.Omega.{arith}
 use lib.ListN.{length, drop, drop-of-length-le}
 use lib.Seq.{drop-drop}
-use borrow.Author.Tests.{eq-eqb}
 use Rattle.rules.specs.Bits.{wordPut}
 use Rattle.rules.specs.Memory.{Memory}
 use Rattle.rules.specs.Answers.{recordBytes}
@@ -14,7 +13,7 @@ use Rattle.rules.specs.Calls.{Outcome, Left, call, written, door}
 use Rattle.rules.specs.declared.Cause.{Cause}
 use Rattle.rules.specs.declared.Answer.{Answer}
 use Rattle.rules.specs.declared.Answer.the-variants.{Address, PageFault, Refused, Done}
-use Rattle.rules.proofs.CallLaws.{door-refused}
+use Rattle.rules.proofs.CallLaws.{door-written, door-refused}
 use Rattle.translator.specs.Contract.{Leaves, Translates}
 use Rattle.pastrulow.specs.Door.{Passes, PassesMemory, Holds, Recorded}
 
@@ -60,7 +59,7 @@ module _ (q : Request) (r r′ b b′ : List ℕ) (a : Answer) (n : ℕ) (right 
   opened mem mem′ e =
       (λ i. record { number = done .number i; answer = done .words .bytes i; image = b′; memory = mem′ })
       ∙ ap written e
-      ∙ rw (eq-eqb (length r) 32 right)
+      ∙ sym (door-written r b mem q right)
 
   pub answers : Leaves q b b′ a → Passes q r r′ b b′ n
   answers h = record { left = λ mem. opened mem mem (h .outcome mem) }

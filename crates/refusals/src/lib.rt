@@ -73,29 +73,29 @@ fn no_cr3(image: &[u8], value: u64) -> bool
     ensures { λ r. ⌜ r ≡ noCr3 (decode (now (image .entry))) value ⌝ }
 {
     let beyond = words::part(63, words::read_word(image, 0), value);
-    let spaces = words::is_on(3, words::read_word(image, 8));
-    !(beyond == 0) | (words::is_on(63, value) & !spaces)
+    let pcide = words::is_on(3, words::read_word(image, 8));
+    !(beyond == 0) | (words::is_on(63, value) & !pcide)
 }
 
 fn no_mode(image: &[u8], value: u64) -> bool
     requires { ⌜ length (now image) ≡ 2048 ⌝ }
     ensures { λ r. ⌜ r ≡ noMode (decode (now (image .entry))) value ⌝ }
 {
-    let spaces = words::is_on(3, words::read_word(image, 8));
+    let pcide = words::is_on(3, words::read_word(image, 8));
     let named = words::read_word(image, 16) % 4096;
     let wanted = words::is_on(3, value);
-    (31 < value) | (wanted & !words::is_on(0, value)) | (wanted & !spaces & !(named == 0))
+    (31 < value) | (wanted & !words::is_on(0, value)) | (wanted & !pcide & !(named == 0))
 }
 
 fn no_invpcid(image: &[u8], kind: u64, pcid: u64, a: u64) -> bool
     requires { ⌜ length (now image) ≡ 2048 ⌝ }
     ensures { λ r. ⌜ r ≡ noInvpcid (decode (now (image .entry))) kind pcid a ⌝ }
 {
-    let spaces = words::is_on(3, words::read_word(image, 8));
+    let pcide = words::is_on(3, words::read_word(image, 8));
     (3 < kind)
         | (4095 < pcid)
         | ((kind == 0) & !is_canonical(a))
-        | ((kind <= 1) & !spaces & !(pcid == 0))
+        | ((kind <= 1) & !pcide & !(pcid == 0))
 }
 
 pub fn start_refusal(image: &[u8], width: u64) -> u64

@@ -5,11 +5,11 @@ use mathlib.Core.Bool.{Bool, true, false, cond}
 use mathlib.Core.List.{List, [], _∷_, List·Memᴰ, List·Memᴰ·head, List·Memᴰ·tail}
 use native.Mathlib.Omega.{arith}
 use lib.ListN.{length}
-use borrow.Author.Tests.{ne-eqb}
+use borrow.Author.Tests.{eq-eqb, ne-eqb}
 use Rattle.rules.specs.Memory.{Memory}
 use Rattle.rules.specs.Image.{decode}
 use Rattle.rules.specs.Refusals.{Request, start, translate, invlpg, invpcid, writeCr3, writeMode, Refusal, lowest, refusals, refusal}
-use Rattle.rules.specs.Calls.{accepted, Outcome, encoded, call, byNumber, Left, door}
+use Rattle.rules.specs.Calls.{accepted, Outcome, encoded, call, byNumber, Left, written, door}
 use Rattle.rules.specs.declared.Answer.the-variants.{Refused}
 use Rattle.rules.proofs.BoolLaws.{either}
 
@@ -28,7 +28,10 @@ pub call-refused : (b : List ℕ) (mem : Memory) (q : Request) (n : ℕ) → ref
     → call b mem q ≡ record { answer = Refused (suc n); image = b; memory = mem }
 call-refused b mem q n h = ap (byNumber b mem q) h
 
--- refusal 1 writes nothing at all
+-- ---- through the door: with 32 answer bytes the record is written, with any other number refusal 1 writes nothing at all
+pub door-written : (r b : List ℕ) (mem : Memory) (q : Request) → length r ≡ 32 → door r b mem q ≡ written (call b mem q)
+door-written r b mem q h = rw (eq-eqb (length r) 32 h)
+
 pub door-refused : (r b : List ℕ) (mem : Memory) (q : Request) → (length r ≡ 32 → ⊥)
     → door r b mem q ≡ record { number = 1; answer = r; image = b; memory = mem }
 door-refused r b mem q h = rw (ne-eqb (length r) 32 h)

@@ -4,11 +4,12 @@ use Prim.Native.Nat.{ℕ, zero, suc}
 use mathlib.Core.Path.{_≡_}
 use mathlib.Core.Bool.{Bool, cond, _&&_}
 use mathlib.Core.List.{List, [], _∷_, _++_, map}
+use lib.ListN.{replicate}
 use lib.Dec.{eqb}
 use Rattle.rules.specs.Image.{Slot, decode}
 use Rattle.rules.specs.Memory.{entryAt}
 use Rattle.rules.specs.Answers.{numbers}
-use Rattle.rules.specs.Refusals.{Request}
+use Rattle.rules.specs.Refusals.{Request, start, writeCr3, writeMode}
 use Rattle.rules.specs.Calls.{Outcome, call}
 use Rattle.rules.specs.declared.Cause.{Cause}
 use Rattle.rules.specs.declared.Cause.the-variants.{NotPresent, Reserved, Protection}
@@ -70,11 +71,21 @@ pub record Ending : Type 0 where
   pub calls : List Call
   pub looks : List Look
 
+abbrev pub then : List Call → List Look → Ending
+then cs ls = record { calls = cs; looks = ls }
+
 pub record Case : Type 0 where
   pub image : List ℕ
   pub memory : List ℕ
   pub calls : List Call
   pub endings : List Ending
+
+-- the state of the trial guest, M 40, flags 23 and CR3 0x1000, is reached by the calls themselves; the image before the start may hold anything
+abbrev pub blank : List ℕ
+blank = replicate 2048 0xA5
+
+abbrev pub ready : List Call
+ready = start 40 gives Done ∷ writeCr3 0x1000 gives Done ∷ writeMode 23 gives Done ∷ []
 
 -- calls made one after the other, each lent what the one before it left
 pub record Ran : Type 0 where

@@ -12,21 +12,11 @@ use lib.Seq.{getD-drop}
 use lib.Dec.{eqb, eqb·suc-zero, eqb·zero-suc, eqb·suc-suc}
 use borrow.Author.Tests.{eqb-true}
 use Rattle.rules.specs.Bits.{AreBytes, AreWords, bytesOf, wordsOf, bytesOfAll}
-use Rattle.rules.specs.Image.{Slot, Image, none, slotWords, wordsIn, fromWords, encode, decode}
+use Rattle.rules.specs.Image.{Slot, Image, none, slotWords, wordsIn, fromWords, encode, decode, Sound}
 use Rattle.rules.specs.Buffer.{stored, withVictims}
 use Rattle.rules.specs.Refusals.{allZero}
 use Rattle.rules.specs.Calls.{withFlags, withCr3}
 use Rattle.rules.proofs.WordLaws.{all-length, all-are, words-all, all-words, words-are, words-length, all-append, all-take, all-drop, zero-tail}
-
--- the words fit, and there are no slots but the hundred
-pub record Sound (s : Image) : Type 0 where
-  pub width : s .width < 2 ^ 64
-  pub flags : s .flags < 2 ^ 64
-  pub cr3 : s .cr3 < 2 ^ 64
-  pub victims : s .victims < 2 ^ 64
-  pub tags : (i : ℕ) → s .slots i .tag < 2 ^ 64
-  pub datums : (i : ℕ) → s .slots i .datum < 2 ^ 64
-  pub beyond : (i : ℕ) → 100 ≤ i → s .slots i ≡ none
 
 -- ---- the bytes as a whole
 pub encode-length : (s : Image) → length (encode s) ≡ 2048

@@ -10,12 +10,11 @@ pub mod Grown
 pub mod Marks
 pub mod PlaceLaws
 pub mod SlotLaws
-pub mod AnswerLaws
 pub mod CallLaws
 pub mod RefusalLaws
 pub mod CallWays
+pub mod AnswerLaws
 pub mod SoundLaws
 pub mod Cases
-pub mod TrialGuest
 pub mod TrialCases
 pub mod OwnCases

@@ -10,8 +10,8 @@ use Rattle.rules.specs.Refusals.{Request, start, translate, invlpg, invp
 use Rattle.rules.specs.Calls.{withFlags}
 use Rattle.rules.specs.declared.Cause.the-variants.{NotPresent, Reserved, Protection}
 use Rattle.rules.specs.declared.Answer.the-variants.{Address, PageFault, Refused, Done}
-use Rattle.rules.proofs.Cases.{Call, _gives_, Ending, Case, Look, _holds_, victims, keeps, AllRight}
-use Rattle.rules.proofs.TrialGuest.{pageOf, blank, ready}
+use Rattle.rules.specs.TrialGuest.{pageOf}
+use Rattle.rules.proofs.Cases.{Call, _gives_, Ending, then, Case, blank, ready, _holds_, victims, keeps, AllRight}
 
 -- word 0 is the table itself; 1 a page; 2 a global page; 3 a 2 MiB page and 4 a 1 GiB page; 5 a supervisor's table with nothing in it;
 -- 6 a page not writable; 7 a table outside memory; 8 a large page with bit 13 set; 9 a page not executable;
@@ -26,9 +26,6 @@ guest = pageOf [] ++ pageOf tables
 
 abbrev own : List Call → List Ending → Case
 own cs es = record { image = blank; memory = guest; calls = ready ++ cs; endings = es }
-
-abbrev then : List Call → List Look → Ending
-then cs ls = record { calls = cs; looks = ls }
 
 -- ---- hits of each size, in any part of the page; a write asks for a dirty page; a full set gives the victim's way, one that is not the lowest free way
 abbrev hits : List Case

@@ -9,13 +9,13 @@ use lib.ListN.{length, getD, drop}
 use lib.Dec.{eqb}
 use borrow.Author.Tests.{ne-eqb}
 use Rattle.rules.specs.Bits.{AreBytes, wordAt, wordsOf}
-use Rattle.rules.specs.Image.{Slot, Image, none, encode, decode}
+use Rattle.rules.specs.Image.{Slot, Image, none, encode, decode, Sound, IsImage}
 use Rattle.rules.specs.Buffer.{droppedIf, dropped, stored, withVictims}
 use Rattle.rules.specs.Refusals.{allZero}
 use Rattle.rules.specs.Calls.{withFlags, withCr3}
 use Rattle.rules.proofs.BoolLaws.{either}
 use Rattle.rules.proofs.WordLaws.{word-at}
-use Rattle.rules.proofs.ImageLaws.{Sound, encode-length, encode-decode, decode-encode, sound-decode}
+use Rattle.rules.proofs.ImageLaws.{encode-length, encode-decode, decode-encode, sound-decode}
 
 -- ---- words 0 to 3, and a slot's two words
 word-in : (b : List ℕ) (n : ℕ) → n < 256 → getD (wordsOf 256 b) n 0 ≡ wordAt b (8 * n)
@@ -49,12 +49,7 @@ datum-at b i h =
     let e : 8 * (5 + 2 * i) ≡ 40 + i * 16 = omega arith in
     rw e at (word-in b (5 + 2 * i) (omega arith))
 
--- ---- bytes that are an image's: its parts are sound, and it is their bytes
-pub record IsImage (b : List ℕ) : Type 0 where
-  pub size : length b ≡ 2048
-  pub sound : Sound (decode b)
-  pub says : encode (decode b) ≡ b
-
+-- ---- bytes that are an image's
 pub image-of : (b : List ℕ) → AreBytes b → length b ≡ 2048 → allZero (drop 204 (wordsOf 256 b)) ≡ true → IsImage b
 image-of b h n z = record { size = n; sound = sound-decode b h z; says = encode-decode b h n z }
 

@@ -60,7 +60,7 @@ first-miss : (p : ℕ → Bool) {is : List ℕ} {i : ℕ} → List·Memᴰ i is 
 first-miss p (List·Memᴰ·head {x} {xs} e) h = rw e (missed (p x) x (first p xs) h .0)
 first-miss p (List·Memᴰ·tail {x} {xs} m) h = first-miss p m (missed (p x) x (first p xs) h .1)
 
--- ---- a slot that matches is held, holds the address, and is everybody's or of that space
+-- ---- a slot that matches is held, holds the address, and is global or of that PCID
 module _ (p a i t : ℕ) (h : matches p a i t ≡ true) where
   pub match-held : isHeld t ≡ true
   match-held = and-left (isHeld t) _ (and-left (isHeld t && contains a i t) _ h)

@@ -10,17 +10,17 @@ use native.Mathlib.Nat.{mod-lt, mul-le-mul-right}
 use lib.Pow.{pow-pos, pow-add, split, shr-lt}
 use Rattle.rules.specs.Bits.{isOn, AreBytes}
 use Rattle.rules.specs.Sizes.{Is, sizeAt, pageNumber, setOf}
-use Rattle.rules.specs.Image.{Image, started, decode, control, pge, pcide, pcid, victim, movedOn}
+use Rattle.rules.specs.Image.{Image, started, decode, control, pge, pcide, pcid, victim, movedOn, Sound}
 use Rattle.rules.specs.Memory.{Memory, entryAt}
 use Rattle.rules.specs.Walk.{Leaf}
-use Rattle.rules.specs.Buffer.{matches, others, stored, withVictims}
+use Rattle.rules.specs.Buffer.{matches, ofPcid, stored, withVictims}
 use Rattle.rules.specs.Refusals.{Request, start, translate, invlpg, invpcid, writeCr3, writeMode, canonical, refusal}
 use Rattle.rules.specs.Calls.{After, accessOf, invpcidDrops, sameMode, accepted, withCr3, withFlags, Outcome, call}
 use Rattle.rules.specs.declared.Access.{Access}
 use Rattle.rules.proofs.BoolLaws.{either}
 use Rattle.rules.proofs.SizeLaws.{size-at, set-lt, page-lt, tag-lt, datum-lt}
 use Rattle.rules.proofs.WalkLaws.{IsLeaf, is-leaf, leaf-lt}
-use Rattle.rules.proofs.ImageLaws.{Sound, decode-encode}
+use Rattle.rules.proofs.ImageLaws.{decode-encode}
 use Rattle.rules.proofs.PlaceLaws.{sound-dropped, sound-stored, sound-victims, sound-flags, sound-cr3}
 use Rattle.rules.proofs.CallLaws.{call-accepted}
 use Rattle.rules.proofs.RefusalLaws.{given, Later, fits, fit-image}
@@ -103,7 +103,7 @@ module _ (b : List ℕ) (mem : Memory) (bytes : AreBytes b) where
       sound-dropped (λ i t. canonical (control (decode b)) a && matches (pcid (decode b)) a i t) (decode b) (was-sound (invlpg a) tt h)
   sound-accepted (invpcid t p a) h = sound-dropped (invpcidDrops t p a) (decode b) (was-sound (invpcid t p a) tt h)
   sound-accepted (writeCr3 v) h =
-      sound-dropped (λ i t. not (isOn 63 v) && others (pcid (withCr3 (v % 2 ^ 63) (decode b))) t) (withCr3 (v % 2 ^ 63) (decode b))
+      sound-dropped (λ i t. not (isOn 63 v) && ofPcid (pcid (withCr3 (v % 2 ^ 63) (decode b))) t) (withCr3 (v % 2 ^ 63) (decode b))
       (sound-cr3 (v % 2 ^ 63) (decode b) (omega arith) (was-sound (writeCr3 v) tt h))
   sound-accepted (writeMode v) h =
       sound-dropped (λ i t. not (sameMode v (decode b .flags))) (withFlags v (decode b))

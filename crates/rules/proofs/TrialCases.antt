@@ -2,25 +2,33 @@
 use mathlib.Core.Path.{refl}
 use mathlib.Core.List.{List, [], _∷_}
 use Rattle.rules.specs.Image.{encode, decode}
-use Rattle.rules.specs.Refusals.{translate, writeCr3}
+use Rattle.rules.specs.Refusals.{translate, writeCr3, writeMode}
+use Rattle.rules.specs.TrialGuest.{guest}
 use Rattle.rules.specs.declared.Cause.the-variants.{NotPresent, Reserved, Protection}
 use Rattle.rules.specs.declared.Answer.the-variants.{Address, PageFault, Refused, Done}
-use Rattle.rules.proofs.Cases.{Call, _gives_, Case, Look, _holds_, AllRight}
-use Rattle.rules.proofs.TrialGuest.{guest, blank, ready}
+use Rattle.rules.proofs.Cases.{Call, _gives_, Ending, then, Case, blank, ready, Look, _holds_, AllRight}
+
+abbrev afresh : List Ending → Case
+afresh es = record { image = blank; memory = guest; calls = ready; endings = es }
 
 abbrev trial : List Call → List Look → Case
-trial cs ls = record { image = blank; memory = guest; calls = ready; endings = record { calls = cs; looks = ls } ∷ [] }
+trial cs ls = afresh (then cs ls ∷ [])
 
 abbrev pub cases : List Case
 cases =
     trial (translate 0 0x123 gives Address 0x5123 0x1000 4 ∷ []) (0x4000 holds 0x5023 ∷ 0x1000 holds 0x2027 ∷ [])
-    ∷ trial
+    ∷ afresh
+    (then (translate 0 0x123 gives Address 0x5123 0x1000 4 ∷ translate 1 0x123 gives Address 0x5123 0x1000 4 ∷ []) (0x4000 holds 0x5063 ∷ [])
+    ∷ then
     (translate 0 0x123 gives Address 0x5123 0x1000 4 ∷ translate 1 0x123 gives Address 0x5123 0x1000 4
-    ∷ translate 1 0x123 gives Address 0x5123 0x1000 0 ∷ []) (0x4000 holds 0x5063 ∷ [])
+    ∷ translate 1 0x123 gives Address 0x5123 0x1000 0 ∷ []) [] ∷ [])
     ∷ trial (translate 3 0x123 gives PageFault Protection 1 5 4 ∷ []) []
     ∷ trial (translate 4 0x1000 gives PageFault Protection 1 7 4 ∷ []) []
     ∷ trial (translate 5 0x2000 gives PageFault Protection 1 0x15 4 ∷ []) []
-    ∷ trial (translate 3 0x3000 gives PageFault NotPresent 1 4 4 ∷ []) []
+    ∷ afresh
+    (then (translate 3 0x3000 gives PageFault NotPresent 1 4 4 ∷ []) []
+    ∷ then (translate 5 0x3000 gives PageFault NotPresent 1 0x14 4 ∷ []) []
+    ∷ then (writeMode 7 gives Done ∷ translate 5 0x3000 gives PageFault NotPresent 1 0x14 4 ∷ []) [] ∷ [])
     ∷ trial (translate 0 0x4000 gives PageFault Reserved 1 9 4 ∷ []) []
     ∷ trial (translate 0 0x212345 gives Address 0x612345 0x200000 3 ∷ []) []
     ∷ trial (translate 1 0x40000010 gives Address 0x40000010 0x40000000 2 ∷ []) (0x2008 holds 0x400000E3 ∷ [])

@@ -24,6 +24,7 @@ wasReserved NotPresent = false
 wasReserved Reserved = true
 wasReserved Protection = false
 
+-- control is not asked yet: it waits for request W-201
 abbrev pub code : Control → Access → Cause → ℕ
 code c k cause =
     one (wasPresent cause) + 2 * one (k .write) + 4 * one (k .user) + 8 * one (wasReserved cause) + 16 * one (k .fetch)

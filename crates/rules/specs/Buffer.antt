@@ -19,13 +19,13 @@ use Rattle.rules.specs.declared.Found.the-variants.{Page, Fault}
 abbrev pub contains : ℕ → ℕ → ℕ → Bool
 contains a i t = eqb (i / 4) (setOf (sizeOf i) a) && eqb (pageIn t) (pageNumber (sizeOf i) a)
 
--- it is also in use, for everybody or for the address space p
+-- it is also held, and global or of PCID p
 abbrev pub matches : ℕ → ℕ → ℕ → ℕ → Bool
 matches p a i t = isHeld t && contains a i t && (isGlobal t || eqb (pcidIn t) p)
 
--- of address space p, and not everybody's
-abbrev pub others : ℕ → ℕ → Bool
-others p t = eqb (pcidIn t) p && not (isGlobal t)
+-- of PCID p, and not global
+abbrev pub ofPcid : ℕ → ℕ → Bool
+ofPcid p t = eqb (pcidIn t) p && not (isGlobal t)
 
 -- ---- looking up: small pages first and the largest last, and in a set the ways in their order
 pub data Hit : Type 0 where
@@ -78,12 +78,12 @@ stored i t s =
 abbrev pub withVictims : ℕ → Image → Image
 withVictims v s = record { width = s .width; flags = s .flags; cr3 = s .cr3; victims = v; slots = s .slots }
 
--- into the first way of set n that is not in use; if all are, over the victim, and the next way is the victim from then on
+-- into the first way of set n that is not held; if all are, over the victim, and the next way is the victim from then on
 abbrev pub put : ℕ → Slot → Image → Hit → Image
 put n t s (hit i) = stored i t s
 put n t s miss = stored (4 * n + victim n (s .victims)) t (withVictims (movedOn n (s .victims)) s)
 
--- everybody's if its entry says so and PGE is on; of the current address space; dirty if its entry is so by now
+-- global if PGE is on and its entry says so; of the current PCID; dirty if its entry is so by now
 abbrev pub slotFor : Image → ℕ → Size → ℕ → Rights → Bool → Bool → Slot
 slotFor s a z base r global dirty =
     record { tag = tagOf (pge (s .flags) && global) (pcid s) (pageNumber z a); datum = datumOf r dirty base }

@@ -9,7 +9,7 @@ use Rattle.rules.specs.Sizes.{sizeOf}
 use Rattle.rules.specs.Image.{Image, encode, decode, control, pg, pge, pcide, nxe, pcid, isGlobal, started}
 use Rattle.rules.specs.Memory.{Memory}
 use Rattle.rules.specs.Walk.{Walked, walk}
-use Rattle.rules.specs.Buffer.{contains, matches, others, Hit, hit, miss, find, serves, hitAddress, dropped, filled}
+use Rattle.rules.specs.Buffer.{contains, matches, ofPcid, Hit, hit, miss, find, serves, hitAddress, dropped, filled}
 use Rattle.rules.specs.Answers.{answerOf, numbers, recordBytes, returned}
 use Rattle.rules.specs.Refusals.{Request, start, translate, invlpg, invpcid, writeCr3, writeMode, canonical, refusal}
 use Rattle.rules.specs.declared.Access.{Access}
@@ -68,22 +68,22 @@ abbrev pub withFlags : ℕ → Image → Image
 withFlags v s = record { width = s .width; flags = v; cr3 = s .cr3; victims = s .victims; slots = s .slots }
 
 -- ---- what the operations drop, by a slot's number and tag
--- no flag changes, but for write protect
 abbrev pub isSame : Bool → Bool → Bool
 isSame true b = b
 isSame false b = not b
 
+-- no flag changes, but for write protect
 abbrev pub sameMode : ℕ → ℕ → Bool
 sameMode v f = isSame (pg v) (pg f) && isSame (pge v) (pge f) && isSame (pcide v) (pcide f) && isSame (nxe v) (nxe f)
 
--- INVPCID by its type: an address in one space; one space; everything; everything that is not everybody's
+-- INVPCID by its type: an address of one PCID; one PCID; everything; everything that is not global
 abbrev pub invpcidDrops : ℕ → ℕ → ℕ → ℕ → ℕ → Bool
-invpcidDrops zero p a i t = contains a i t && others p t
-invpcidDrops (suc zero) p a i t = others p t
+invpcidDrops zero p a i t = contains a i t && ofPcid p t
+invpcidDrops (suc zero) p a i t = ofPcid p t
 invpcidDrops (suc (suc zero)) p a i t = true
 invpcidDrops (suc (suc (suc n))) p a i t = not (isGlobal t)
 
--- ---- an accepted call. INVLPG of an address that is not canonical drops nothing; a CR3 write drops the space that it makes current, unless bit 63 says
+-- ---- an accepted call. INVLPG of an address that is not canonical drops nothing; a CR3 write drops the PCID that it makes current, unless bit 63 says
 -- not to, and that bit is not stored; a mode write drops everything if a flag changes
 abbrev pub done : Image → Memory → After
 done s mem = record { answer = Done; image = s; memory = mem }
@@ -95,7 +95,7 @@ accepted s mem (invlpg a) = done (dropped (λ i t. canonical (control s) a && ma
 accepted s mem (invpcid t p a) = done (dropped (invpcidDrops t p a) s) mem
 accepted s mem (writeCr3 v) =
     let s′ : Image = withCr3 (v % 2 ^ 63) s in
-    done (dropped (λ i t. not (isOn 63 v) && others (pcid s′) t) s′) mem
+    done (dropped (λ i t. not (isOn 63 v) && ofPcid (pcid s′) t) s′) mem
 accepted s mem (writeMode v) = done (dropped (λ i t. not (sameMode v (s .flags))) (withFlags v s)) mem
 
 -- ---- a call on the host's bytes: one that is refused leaves them as they were

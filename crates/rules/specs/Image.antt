@@ -1,8 +1,9 @@
 -- The state image: "The state image" of document 01, as a record of named parts, and as the 2,048 bytes that the host keeps.
-use Prim.Native.Nat.{ℕ, zero, suc, _+_, _-_, _*_, _/_, _%_, _^_}
+use Prim.Native.Nat.{ℕ, zero, suc, _+_, _-_, _*_, _/_, _%_, _^_, _≤_, _<_}
+use mathlib.Core.Path.{_≡_}
 use mathlib.Core.Bool.{Bool, cond}
 use mathlib.Core.List.{List, [], _∷_, _++_}
-use lib.ListN.{getD, replicate}
+use lib.ListN.{length, getD, replicate}
 use Rattle.rules.specs.Bits.{isOn, field, part, one, wordsOf, bytesOfAll}
 use Rattle.rules.specs.declared.Control.{Control}
 use Rattle.rules.specs.declared.Rights.{Rights}
@@ -20,7 +21,7 @@ pub record Image : Type 0 where
   pub victims : ℕ
   pub slots : ℕ → Slot
 
--- ---- the flags: paging, write protect, global pages, address space numbers, no-execute, from bit 0 up
+-- ---- the flags: paging, write protect, global pages, PCIDs, no-execute, from bit 0 up
 abbrev pub pg : ℕ → Bool
 pg f = isOn 0 f
 
@@ -36,7 +37,7 @@ pcide f = isOn 3 f
 abbrev pub nxe : ℕ → Bool
 nxe f = isOn 4 f
 
--- ---- CR3: its bits from 12 up to the width are where the top table stands; its low 12 bits name the current address space, which is 0 while PCIDE is off
+-- ---- CR3: its bits from 12 up to the width are where the top table stands; its low 12 bits are the current PCID, which is 0 while PCIDE is off
 abbrev pub root : Image → ℕ
 root s = part (s .width) 12 (s .cr3)
 
@@ -54,7 +55,7 @@ victim n v = v / 2 ^ (2 * n) % 4
 abbrev pub movedOn : ℕ → ℕ → ℕ
 movedOn n v = v - victim n v * 2 ^ (2 * n) + (victim n v + 1) % 4 * 2 ^ (2 * n)
 
--- ---- the tag, from bit 0 up: in use, everybody's, twelve bits of address space, 36 bits of page number
+-- ---- the tag, from bit 0 up: held, global, twelve bits of PCID, 36 bits of page number
 abbrev pub isHeld : ℕ → Bool
 isHeld t = isOn 0 t
 
@@ -111,3 +112,20 @@ encode s = bytesOfAll (wordsIn s)
 
 unfoldable pub decode : List ℕ → Image
 decode b = fromWords (wordsOf 256 b)
+
+-- ---- what a function asks of the bytes of an image that it is lent
+-- the words fit, and there are no slots but the hundred
+pub record Sound (s : Image) : Type 0 where
+  pub width : s .width < 2 ^ 64
+  pub flags : s .flags < 2 ^ 64
+  pub cr3 : s .cr3 < 2 ^ 64
+  pub victims : s .victims < 2 ^ 64
+  pub tags : (i : ℕ) → s .slots i .tag < 2 ^ 64
+  pub datums : (i : ℕ) → s .slots i .datum < 2 ^ 64
+  pub beyond : (i : ℕ) → 100 ≤ i → s .slots i ≡ none
+
+-- there are 2,048 bytes, the parts that they say are sound, and they are the bytes of those parts
+pub record IsImage (b : List ℕ) : Type 0 where
+  pub size : length b ≡ 2048
+  pub sound : Sound (decode b)
+  pub says : encode (decode b) ≡ b

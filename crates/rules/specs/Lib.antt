@@ -8,3 +8,4 @@ pub mod Buffer
 pub mod Answers
 pub mod Refusals
 pub mod Calls
+pub mod TrialGuest

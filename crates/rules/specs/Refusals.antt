@@ -32,7 +32,8 @@ abbrev pub lowest : List Refusal → ℕ
 lowest [] = 0
 lowest (r ∷ rs) = cond (r .applies) (r .number) (lowest rs)
 
--- bits 63 to 47 of the address are all alike: the lowest and the highest 2^47 addresses
+-- bits 63 to 47 of the address are all alike: the lowest and the highest 2^47 addresses; control is not asked yet: it waits for
+-- request W-209
 abbrev pub canonical : Control → ℕ → Bool
 canonical c a = ltb a (2 ^ 47) || leb (2 ^ 64 - 2 ^ 47) a
 
@@ -64,12 +65,12 @@ noAddress s a = cond (pg (s .flags)) (not (canonical (control s) a)) (leb (2 ^ 3
 abbrev pub noCr3 : Image → ℕ → Bool
 noCr3 s v = anyOn 63 (s .width) v || (isOn 63 v && not (pcide (s .flags)))
 
--- no mode to go to: a flag that there is not; address spaces without paging; address spaces from now on, while CR3 already names one
+-- no mode to go to: a flag that there is not; PCIDE without PG; PCIDE turned on while CR3 names a PCID other than 0
 abbrev pub noMode : Image → ℕ → Bool
 noMode s v =
     ltb 31 v || (pcide v && not (pg v)) || (pcide v && not (pcide (s .flags)) && not (eqb (field 12 0 (s .cr3)) 0))
 
--- no such invalidation: its type; its address space; for one address, the address; a space other than 0 while there are none
+-- no such invalidation: its type; its PCID; for one address, the address; a PCID other than 0 while PCIDE is off
 abbrev pub noInvpcid : Image → ℕ → ℕ → ℕ → Bool
 noInvpcid s t p a =
     ltb 3 t || ltb 4095 p || (eqb t 0 && not (canonical (control s) a)) || (leb t 1 && not (pcide (s .flags)) && not (eqb p 0))

@@ -14,7 +14,7 @@ use Rattle.rules.specs.declared.Cause.the-variants.{NotPresent, Reserved
 use Rattle.rules.specs.declared.Found.{Found}
 use Rattle.rules.specs.declared.Found.the-variants.{Page, Fault}
 
--- the level of the table that CR3 points to
+-- the level of the table that CR3 points to; control is not asked yet: it waits for request W-209
 abbrev pub top : Control → ℕ
 top c = 4
 

@@ -22,7 +22,8 @@ use Rattle.sequences.specs.History.{History, _then_with_, bytes, image, 
 use Rattle.sequences.specs.Covers.{Who, global, others}
 use Rattle.sequences.specs.Spans.{Since, moment, later, Uncovered}
 use Rattle.sequences.specs.Claims.{walkOnly, judgedBy, butCount, whoseHit, whose, RanUnder, Gives, Answers, IsPlain, ReadNow, Faults}
-use Rattle.sequences.proofs.Fates.{whoOf, slotAt, tagAt}
+use Rattle.sequences.specs.Drops.{whoOf}
+use Rattle.sequences.proofs.Fates.{slotAt, tagAt}
 use Rattle.sequences.proofs.Origins.{Origin, origin, since-map, slot-pcid, may-use, again, hit-is}
 
 -- ---- a call that walks, or has no paging, does what a call without a buffer does
@@ -54,7 +55,7 @@ faults b mem k a cause level code read e = of-now b mem k a (called b mem (trans
 pub readNow : ReadNow
 readNow b mem k a value size read e = of-now b mem k a (called b mem (translate k a)) (ap isRead e)
 
--- ---- a slot that answers: it holds the address, has an origin, and is everybody's or of the current PCID
+-- ---- a slot that answers: it holds the address, has an origin, and is global or of the current PCID
 pub record Answering (h : History) (k a i : ℕ) : Type 0 where
   pub on : pg (image h .flags) ≡ true
   pub found : find (image h) a ≡ hit i
@@ -70,7 +71,7 @@ module _ {h : History} {k a i : ℕ} (w : Answering h k a i) where
   pub whence : Origin i (slotAt h i) h
   whence = origin h i (slotAt h i) refl (match-held (pcid (image h)) a i (tagAt h i) match)
 
-  -- so the moment of its origin ran under the PCID of now, if it is not everybody's
+  -- so the moment of its origin ran under the PCID of now, if it is not global
   pub owned : (whoOf (tagAt h i) ≡ cond (isGlobal (tagAt h i)) global (others (pcid (image h))))
       × ((s : Image) → pcidIn (tagAt h i) ≡ pcid s → RanUnder (whoOf (tagAt h i)) (image h) s)
   owned = go (isGlobal (tagAt h i)) (match-own (pcid (image h)) a i (tagAt h i) match)

@@ -24,7 +24,8 @@ use Rattle.sequences.specs.History.{History, bytes, image, Accepted, isA
 use Rattle.sequences.specs.Covers.{Who, global, others, covered}
 use Rattle.sequences.specs.Spans.{moment, later, Throughout, OnlyTranslator, globalPage, fillsGlobal, NoGlobalFill, SameRoot, SameRootOfPcid, RootA, RootB}
 use Rattle.sequences.specs.Claims.{butCount, IsPlain, IsPlainButCount, Equality, EqualityWorded}
-use Rattle.sequences.proofs.Fates.{whoOf, slotAt, tagAt, Filled}
+use Rattle.sequences.specs.Drops.{whoOf}
+use Rattle.sequences.proofs.Fates.{slotAt, tagAt, Filled}
 use Rattle.sequences.proofs.Origins.{Origin, slot-pcid, slot-global, may-use, was-dirty, same-page, again, hit-is}
 use Rattle.sequences.proofs.Answers.{plainly, Answering, has, whence, owned}
 use Rattle.sequences.proofs.Spans.{Kept, Traced, from, goes-on, traced, worded-a, worded-b}

@@ -12,9 +12,9 @@ use Rattle.rules.specs.Image.{encode, decode}
 use Rattle.rules.specs.Memory.{Memory}
 use Rattle.rules.specs.Refusals.{translate, invlpg, invpcid, writeCr3, writeMode}
 use Rattle.rules.specs.Calls.{call}
+use Rattle.rules.specs.TrialGuest.{pageOf}
 use Rattle.rules.specs.declared.Answer.{Answer}
 use Rattle.rules.specs.declared.Answer.the-variants.{Address}
-use Rattle.rules.proofs.TrialGuest.{pageOf}
 use Rattle.sequences.specs.History.{History, begun, _then_with_, bytes, image}
 use Rattle.sequences.specs.Covers.{global, others, covered}
 use Rattle.sequences.specs.Spans.{OnlyTranslator, RootA, RootB}
@@ -35,8 +35,8 @@ changed = guest 0x8007 0x9107 0xA00087
 abbrev ready : History
 ready = begun (replicate 2048 0) 40 refl then writeMode 23 with []
 
-abbrev spaces : History
-spaces = ready then writeMode 31 with [] then writeCr3 0x0001 with []
+abbrev withPcids : History
+withPcids = ready then writeMode 31 with [] then writeCr3 0x0001 with []
 
 -- ---- a case: a translate after a history, what it answers, and what it answers without a buffer
 abbrev Shows : History → Memory → ℕ → ℕ → Answer → Answer → Type 0
@@ -56,7 +56,7 @@ readGlobal h = h then translate 0 0x2000 with first
 
 -- a page was read, and the next PCID is current
 abbrev other : History
-other = spaces then translate 0 0x1000 with first then writeCr3 (2 ^ 63 + 0x0002) with []
+other = withPcids then translate 0 0x1000 with first then writeCr3 (2 ^ 63 + 0x0002) with []
 
 -- a page was read and then written to, nobody else having written to memory
 abbrev written : History
@@ -64,11 +64,11 @@ written = read then translate 1 0x1000 with left ready first 0 0x1000
 
 -- a page was read, and then the root of its PCID changed without a flush
 abbrev moved : History
-moved = spaces then translate 0 0x1000 with first then writeCr3 (2 ^ 63 + 0x1001) with []
+moved = withPcids then translate 0 0x1000 with first then writeCr3 (2 ^ 63 + 0x1001) with []
 
 -- a page was read, another PCID ran under its own root, and the first is back
 abbrev returned : History
-returned = spaces then translate 0 0x1000 with first then writeCr3 (2 ^ 63 + 0x1002) with [] then writeCr3 (2 ^ 63 + 0x0001) with []
+returned = withPcids then translate 0 0x1000 with first then writeCr3 (2 ^ 63 + 0x1002) with [] then writeCr3 (2 ^ 63 + 0x0001) with []
 
 -- a small page was read; a neighbour was read when both had become part of a page of 2 MiB
 abbrev nearby : History
@@ -80,8 +80,8 @@ pub all-shown :
     × Shows (read then invlpg 0x1FFF with []) changed 0 0x1000 (Address 0x8000 0x1000 4) (Address 0x8000 0x1000 4)
     -- a global page stays through a CR3 write, and through INVPCID of its address; it answers under another PCID and another root
     × Shows (readGlobal ready then writeCr3 0x0000 with []) changed 0 0x2000 (Address 0x6000 0x1000 0) (Address 0x9000 0x1000 4)
-    × Shows (readGlobal spaces then invpcid 0 1 0x2000 with []) changed 0 0x2000 (Address 0x6000 0x1000 0) (Address 0x9000 0x1000 4)
-    × Shows (readGlobal spaces then writeCr3 0x1002 with []) first 0 0x2000 (Address 0x6000 0x1000 0) (Address 0x7000 0x1000 4)
+    × Shows (readGlobal withPcids then invpcid 0 1 0x2000 with []) changed 0 0x2000 (Address 0x6000 0x1000 0) (Address 0x9000 0x1000 4)
+    × Shows (readGlobal withPcids then writeCr3 0x1002 with []) first 0 0x2000 (Address 0x6000 0x1000 0) (Address 0x7000 0x1000 4)
     -- another PCID walks; the first comes back without a flush and finds its page
     × Shows other changed 0 0x1000 (Address 0x8000 0x1000 4) (Address 0x8000 0x1000 4)
     × Shows (other then translate 0 0x1000 with changed then writeCr3 (2 ^ 63 + 0x0001) with []) changed 0 0x1000 (Address 0x5000 0x1000 0) (Address 0x8000 0x1000 4)
@@ -89,9 +89,9 @@ pub all-shown :
     × Shows read (left ready first 0 0x1000) 1 0x1000 (Address 0x5000 0x1000 4) (Address 0x5000 0x1000 4)
     × Shows written (left read (left ready first 0 0x1000) 1 0x1000) 1 0x1000 (Address 0x5000 0x1000 0) (Address 0x5000 0x1000 4)
     -- the root changed without a flush: only the translator wrote to memory, and yet the answer is not that of the walk
-    × Shows moved (left spaces first 0 0x1000) 0 0x1000 (Address 0x5000 0x1000 0) (Address 0x7000 0x1000 4)
+    × Shows moved (left withPcids first 0 0x1000) 0 0x1000 (Address 0x5000 0x1000 0) (Address 0x7000 0x1000 4)
     -- the root of another PCID does not matter
-    × Shows returned (left spaces first 0 0x1000) 0 0x1000 (Address 0x5000 0x1000 0) (Address 0x5000 0x1000 4)
+    × Shows returned (left withPcids first 0 0x1000) 0 0x1000 (Address 0x5000 0x1000 0) (Address 0x5000 0x1000 4)
     -- INVLPG of the neighbour drops the page of 2 MiB that holds both, and not the small page of before
     × Shows (nearby then invlpg 0x605000 with []) changed 0 0x601000 (Address 0x5000 0x1000 0) (Address 0xA01000 0x200000 3)
 unfolding bytes encode decode
@@ -112,7 +112,7 @@ all-shown = (
 
 -- ---- what does not cover: a CR3 write and INVPCID type 0 a global slot, INVLPG of a neighbour an address of the same 2 MiB
 pub not-covered : (covered global 0x2000 (readGlobal ready) [] (writeCr3 0x0000) ≡ false)
-    × (covered global 0x2000 (readGlobal spaces) [] (invpcid 0 1 0x2000) ≡ false)
+    × (covered global 0x2000 (readGlobal withPcids) [] (invpcid 0 1 0x2000) ≡ false)
     × (covered (others 0) 0x601000 nearby [] (invlpg 0x605000) ≡ false)
 unfolding bytes encode decode
 not-covered = (refl, refl, refl)
@@ -129,7 +129,7 @@ under-a =
       memory-others = (refl, (refl, tt));
     }
 
-pub under-b : RootB returned (left spaces first 0 0x1000) 0x1000
+pub under-b : RootB returned (left withPcids first 0 0x1000) 0x1000
 unfolding bytes encode decode
 under-b =
     record {
@@ -139,7 +139,7 @@ under-b =
     }
 
 -- where the PCID's own root changed, only the translator wrote to memory, and yet neither (a) nor (b) holds, whatever memory is given
-pub only-root : OnlyTranslator (covered (others 1) 0x1000) moved (left spaces first 0 0x1000)
+pub only-root : OnlyTranslator (covered (others 1) 0x1000) moved (left withPcids first 0 0x1000)
 unfolding bytes encode decode
 only-root = (refl, tt)
 

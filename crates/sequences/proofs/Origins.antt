@@ -3,11 +3,11 @@
 -- What a filled slot says, read back from its two words, is what its walk found; and for every address of its page a walk that reads alike finds the same.
 -- So where the slot answers, it answers as the walk of its origin does, judged now.
 use Prim.Native.Nat.{ℕ, suc, _+_, _/_, _%_}
-use mathlib.Core.Path.{_≡_, ap, sym, _∙_, subst}
+use mathlib.Core.Path.{_≡_, refl, ap, sym, _∙_, subst}
 use mathlib.Core.Bool.{Bool, true, false, _&&_, _||_, not, true≢false, and-false}
 use native.Mathlib.Omega.{arith}
 use lib.Dec.{eqb, eqb·suc-zero}
-use borrow.Author.Tests.{eqb-true}
+use borrow.Author.Tests.{eqb-true, eq-eqb}
 use Rattle.rules.specs.Bits.{part}
 use Rattle.rules.specs.Sizes.{shift, Is, sizeAt, sizeOf, setOf, pageNumber}
 use Rattle.rules.specs.Image.{Slot, Image, none, control, root, pge, pcid, isHeld, isGlobal, pcidIn, pageIn, rightsIn, isDirty}
@@ -35,7 +35,8 @@ use Rattle.sequences.specs.Covers.{Who, covers, covered}
 use Rattle.sequences.specs.Spans.{Since, moment, later}
 use Rattle.sequences.specs.Claims.{butCount}
 use Rattle.sequences.proofs.Images.{image-start, image-cases}
-use Rattle.sequences.proofs.Fates.{whoOf, UncoveredSlot, Filled, Fate, gone, kept, fills, fate}
+use Rattle.sequences.specs.Drops.{whoOf, IsPlaced, Placed}
+use Rattle.sequences.proofs.Fates.{UncoveredSlot, Filled, Fate, gone, kept, fills, fate}
 
 abbrev pub Origin : ℕ → Slot → History → Type 0
 Origin i t h = Since (UncoveredSlot i (t .tag)) (Filled i t) h
@@ -93,6 +94,11 @@ module _ {i : ℕ} {t : Slot} {h : History} {m : Memory} {k b : ℕ} (f : Filled
   slot-page : pageIn (t .tag) ≡ pageNumber (sizeAt (f .leaf .level)) b
   slot-page = rw (f .slot) (tag-page (pge (image h .flags) && p .global) (pcid (image h)) _ (pcid-lt (image h)) (page-lt (sizeAt (p .level)) b size))
 
+  holds-page : contains b i (t .tag) ≡ true
+  holds-page =
+      rw (eq-eqb (i / 4) (setOf (sizeOf i) b) (f .inSet ∙ ap (λ (z : Size). setOf z b) (sym size-is)))
+      (eq-eqb _ _ (slot-page ∙ ap (λ (z : Size). pageNumber z b) (sym size-is)))
+
   pub slot-pcid : pcidIn (t .tag) ≡ pcid (image h)
   slot-pcid = rw (f .slot) (tag-pcid (pge (image h .flags) && p .global) (pcid (image h)) _ (pcid-lt (image h)))
 
@@ -147,3 +153,11 @@ module _ {i : ℕ} {t : Slot} {h : History} {m : Memory} {k b : ℕ} (f : Filled
             let base : d .base ≡ part 52 (shift (sizeOf i .level)) (t .datum) = sym (l .base) ∙ sym slot-base in
             ap (λ (x : Bool). butCount (answerOf c q a (pageIf x q d n))) (g (d .rights) (l .rights))
             ∙ (λ j. Address (base j + a % z j .length) (z j .length) 0)
+
+-- ---- so every held slot stands where an address finds it
+pub placed : Placed
+placed h i held = go (origin h i (image h .slots i) refl held)
+  where
+    go : {h₀ : History} → Origin i (image h .slots i) h₀ → IsPlaced i (image h .slots i)
+    go (moment k a ok f) = record { held = held; address = a; has = holds-page f }
+    go (later q r u) = go r

@@ -2,7 +2,7 @@
 -- the translator changes memory, memory only grows. So the origin is seen from now in every span in which only the translator wrote.
 use Prim.Native.Nat.{ℕ}
 use mathlib.Core.Path.{_≡_, refl, sym, _∙_, subst}
-use mathlib.Core.Bool.{Bool, true, false, _||_, true≢false, and-true, and-false}
+use mathlib.Core.Bool.{Bool, true, false, _&&_, _||_, true≢false, and-true, and-false}
 use borrow.Author.Tests.{eq-eqb}
 use Rattle.rules.specs.Image.{Image, control, pg, pge, pcide, nxe, pcid}
 use Rattle.rules.specs.Memory.{Memory}
@@ -14,7 +14,7 @@ use Rattle.rules.proofs.Alike.{Agree}
 use Rattle.rules.proofs.Grown.{Grown, grown-none, grown-on, call-grows}
 use Rattle.rules.proofs.CallWays.{Way, unpaged, answered, walks, way, walked-cases}
 use Rattle.sequences.specs.History.{History, begun, _then_with_, bytes, image}
-use Rattle.sequences.specs.Covers.{Who, global, others, differ, covers, covered}
+use Rattle.sequences.specs.Covers.{Who, global, others, differ, changes, covers, covered}
 use Rattle.sequences.specs.Spans.{Since, moment, later, Uncovered, Unless, Throughout, isMoment, IsLeft, IfMoment, OnlyTranslator, SameRoot, NoGlobalFill, RootA, RootB, coveredBoth, WordedA, WordedB}
 use Rattle.sequences.proofs.Images.{image-cases}
 
@@ -32,6 +32,11 @@ not-differ true true h = refl
 not-differ true false h = absurd (true≢false h)
 not-differ false y h = h
 
+-- a mode write covers by the flags alone, whatever the size
+thrice : (b : Bool) → (b && b && b) ≡ false → b ≡ false
+thrice true h = h
+thrice false h = refl
+
 kept-accepted : (who : Who) (a : ℕ) (s : Image) (mem : Memory) (q : Request) → covers who a s q ≡ false → Kept s (accepted s mem q .image)
 kept-accepted who a s mem (start w) h = absurd (true≢false h)
 kept-accepted who a s mem (translate k b) h = kept-way s mem (accessOf k) b (way s mem (accessOf k) b)
@@ -41,7 +46,9 @@ kept-accepted who a s mem (writeCr3 v) h = record { width = refl; nxe = refl }
 kept-accepted who a s mem (writeMode v) h =
     record {
       width = refl;
-      nxe = not-differ (nxe v) (nxe (s .flags)) (or-right (differ (pg v) (pg (s .flags)) || differ (pge v) (pge (s .flags)) || differ (pcide v) (pcide (s .flags))) _ h);
+      nxe =
+          not-differ (nxe v) (nxe (s .flags))
+          (or-right (differ (pg v) (pg (s .flags)) || differ (pge v) (pge (s .flags)) || differ (pcide v) (pcide (s .flags))) _ (thrice (changes v (s .flags)) h));
     }
 
 kept-call : (who : Who) (a : ℕ) (h : History) (mem : Memory) (q : Request) → Uncovered who a h mem q → Kept (image h) (image (h then q with mem))
@@ -50,9 +57,9 @@ kept-call who a h mem q u =
     (λ ok. kept-accepted who a (image h) mem q (rw (eq-eqb (refusal (bytes h) mem q) 0 ok, and-true) at u)) (λ n r. record { width = refl; nxe = refl })
 
 -- ---- the moment, seen from now: what the walk goes by was kept since, and memory has grown
-pub data Traced (P : History → Memory → ℕ → ℕ → Type 0) (R : History → Type 0) (h : History) (now : Memory) : Type 0 where
-  from : {h₀ : History} {m : Memory} {k b : ℕ} → P h₀ m k b → R h₀ → Kept (image h₀) (image h) → Grown (call (bytes h₀) m (translate k b) .memory) now
-      → Traced P R h now
+pub data Traced (P : History → Memory → ℕ → ℕ → Type 0) (R : History → Type 0) (h : History) (last : Memory) : Type 0 where
+  from : {h₀ : History} {m : Memory} {k b : ℕ} → P h₀ m k b → R h₀ → Kept (image h₀) (image h) → Grown (call (bytes h₀) m (translate k b) .memory) last
+      → Traced P R h last
 
 -- what holds throughout a span holds at its end; and at a call that does not begin the span, the span goes on before it
 throughout-end : (begins : History → Memory → Request → Bool) (R : History → Type 0) (h : History) → Throughout begins R h → R h
@@ -63,30 +70,30 @@ pub goes-on : (b : Bool) (A : Type 0) → b ≡ false → Unless b A → A
 goes-on true A e x = absurd (true≢false e)
 goes-on false A e x = x
 
--- what the span asks of a call: that `now` is what it left, if it is a moment
+-- what the span asks of a call: that `last` is what it left, if it is a moment
 abbrev Asked : (History → Memory → Request → Bool) → Bool → History → Memory → Request → Memory → Type 0
-Asked begins b h mem q now = IfMoment b (IsLeft now h mem q × OnlyTranslator begins h mem) (OnlyTranslator begins h now)
+Asked begins b h mem q last = IfMoment b (IsLeft last h mem q × OnlyTranslator begins h mem) (OnlyTranslator begins h last)
 
 module _ {Q : History → Memory → Request → Type 0} {P : History → Memory → ℕ → ℕ → Type 0} (R : History → Type 0) (who : Who) (a : ℕ)
     (un : (h : History) (mem : Memory) (q : Request) → Q h mem q → Uncovered who a h mem q) where
-  pub traced : {h : History} (now : Memory) → Since Q P h → Throughout (covered who a) R h → OnlyTranslator (covered who a) h now → Traced P R h now
-  traced now (moment {h = h} {mem = mem} k b ok p) t o =
-      let at : Asked (covered who a) true h mem (translate k b) now = rw (eq-eqb (refusal (bytes h) mem (translate k b)) 0 ok) at o in
+  pub traced : {h : History} (last : Memory) → Since Q P h → Throughout (covered who a) R h → OnlyTranslator (covered who a) h last → Traced P R h last
+  traced last (moment {h = h} {mem = mem} k b ok p) t o =
+      let at : Asked (covered who a) true h mem (translate k b) last = rw (eq-eqb (refusal (bytes h) mem (translate k b)) 0 ok) at o in
       from p (throughout-end (covered who a) R h (t .1)) (kept-call who a h mem (translate k b) refl)
       (subst (Grown (call (bytes h) mem (translate k b) .memory)) (sym (at .0)) (grown-none _))
-  traced now (later {h = h} {mem = mem} q r u) t o =
-      go (isMoment h mem q) (goes-on (covered who a h mem q) (Asked (covered who a) (isMoment h mem q) h mem q now) (un h mem q u) o)
+  traced last (later {h = h} {mem = mem} q r u) t o =
+      go (isMoment h mem q) (goes-on (covered who a h mem q) (Asked (covered who a) (isMoment h mem q) h mem q last) (un h mem q u) o)
       (λ m. traced m r (goes-on (covered who a h mem q) (Throughout (covered who a) R h) (un h mem q u) (t .1)))
     where
-      onward : (m : Memory) → Grown m now → Traced P R h m → Traced P R (h then q with mem) now
+      onward : (m : Memory) → Grown m last → Traced P R h m → Traced P R (h then q with mem) last
       onward m g (from p x s z) =
           let y : Kept (image h) (image (h then q with mem)) = kept-call who a h mem q (un h mem q u) in
-          from p x (record { width = s .width ∙ y .width; nxe = s .nxe ∙ y .nxe }) (grown-on _ m now z g)
+          from p x (record { width = s .width ∙ y .width; nxe = s .nxe ∙ y .nxe }) (grown-on _ m last z g)
 
-      go : (b : Bool) → Asked (covered who a) b h mem q now → ((m : Memory) → OnlyTranslator (covered who a) h m → Traced P R h m)
-          → Traced P R (h then q with mem) now
+      go : (b : Bool) → Asked (covered who a) b h mem q last → ((m : Memory) → OnlyTranslator (covered who a) h m → Traced P R h m)
+          → Traced P R (h then q with mem) last
       go true w ih = onward mem (subst (Grown mem) (sym (w .0)) (call-grows (bytes h) mem q)) (ih mem (w .1))
-      go false w ih = onward now (grown-none now) (ih now w)
+      go false w ih = onward last (grown-none last) (ih last w)
 
 -- ---- the root condition as the paper words it asks more than ours: a span that begins later is a part of one that begins sooner
 shorter : (A B : Type 0) (x y : Bool) → (y ≡ false → x ≡ false) → (A → B) → Unless x A → Unless y B
@@ -99,15 +106,15 @@ module _ (c d : History → Memory → Request → Bool) (sooner : (h : History)
   part R (h then q with mem) t =
       (t .0, shorter (Throughout c R h) (Throughout d R h) (c h mem q) (d h mem q) (sooner h mem q) (part R h) (t .1))
 
-  memory-part : (h : History) (now : Memory) → OnlyTranslator c h now → OnlyTranslator d h now
-  memory-part (begun b w ok) now o = tt
-  memory-part (h then q with mem) now o =
-      shorter (Asked c (isMoment h mem q) h mem q now) (Asked d (isMoment h mem q) h mem q now) (c h mem q) (d h mem q) (sooner h mem q)
+  memory-part : (h : History) (last : Memory) → OnlyTranslator c h last → OnlyTranslator d h last
+  memory-part (begun b w ok) last o = tt
+  memory-part (h then q with mem) last o =
+      shorter (Asked c (isMoment h mem q) h mem q last) (Asked d (isMoment h mem q) h mem q last) (c h mem q) (d h mem q) (sooner h mem q)
       (go (isMoment h mem q) (memory-part h)) o
     where
-      go : (b : Bool) → ((m : Memory) → OnlyTranslator c h m → OnlyTranslator d h m) → Asked c b h mem q now → Asked d b h mem q now
+      go : (b : Bool) → ((m : Memory) → OnlyTranslator c h m → OnlyTranslator d h m) → Asked c b h mem q last → Asked d b h mem q last
       go true ih w = (w .0, ih mem (w .1))
-      go false ih w = ih now w
+      go false ih w = ih last w
 
 module _ (h : History) (mem : Memory) (a : ℕ) where
   abbrev both : History → Memory → Request → Bool

@@ -1,24 +1,24 @@
--- Demand 3: what is claimed. Each claim is a type; proofs/ has one proof of each, by the claim's name with a small first letter.
-use Prim.Native.Nat.{ℕ, suc, zero}
+-- Demand 3: what is claimed of answers. Each claim is a type; proofs/ has one proof of each, by the claim's name with a small first letter. What is claimed of
+-- drops stands in `Drops`.
+use Prim.Native.Nat.{ℕ, suc}
 use mathlib.Core.Path.{_≡_}
 use mathlib.Core.Logic.{_⊎_}
-use mathlib.Core.Bool.{Bool, true, false, cond, _&&_, not}
+use mathlib.Core.Bool.{Bool, true, false, cond}
 use mathlib.Core.List.{List}
-use Rattle.rules.specs.Image.{Image, decode, control, pcid, pg, isGlobal, none}
+use Rattle.rules.specs.Image.{Image, decode, control, pcid, pg, isGlobal}
 use Rattle.rules.specs.Memory.{Memory}
 use Rattle.rules.specs.Walk.{Reach, Walked, reachIn, judged, walk}
-use Rattle.rules.specs.Buffer.{Hit, hit, miss, find, contains, matches, others as isPcids}
+use Rattle.rules.specs.Buffer.{Hit, hit, miss, find}
 use Rattle.rules.specs.Answers.{answerOf}
-use Rattle.rules.specs.Refusals.{translate, Request, start, invlpg, invpcid, writeCr3, writeMode, canonical, refusal}
+use Rattle.rules.specs.Refusals.{translate}
 use Rattle.rules.specs.Calls.{accessOf, Outcome, call}
-use Rattle.rules.specs.Bits.{isOn, AreBytes}
 use Rattle.rules.specs.declared.Access.{Access}
 use Rattle.rules.specs.declared.Cause.{Cause}
 use Rattle.rules.specs.declared.Answer.{Answer}
 use Rattle.rules.specs.declared.Answer.the-variants.{Address, PageFault, Refused, Done}
 use Rattle.sequences.specs.History.{History, _then_with_, bytes, image, Accepted}
-use Rattle.sequences.specs.Covers.{Who, global, others, pcidAfter, changes}
-use Rattle.sequences.specs.Spans.{Since, Uncovered, RootA, RootB, WordedA, WordedB, isTranslate}
+use Rattle.sequences.specs.Covers.{Who, global, others}
+use Rattle.sequences.specs.Spans.{Since, Uncovered, WordedA, WordedB, RootA, RootB}
 
 -- ---- a translate with no buffer: the walk, always. With paging off there is none
 pub record Plain : Type 0 where
@@ -35,7 +35,8 @@ abbrev pub plain : Image → Memory → ℕ → ℕ → Plain
 plain s mem k a = walkOnly (pg (s .flags)) s mem (accessOf k) a
 
 -- the same of another moment, as judged now: which page the walk reaches goes by the memory and the control state s of that moment; whether the access
--- may use it goes by the write-protect flag of now, the only part of control that `judged` looks at
+-- may use it goes by `now`, the image of the call. Judging reads write protect and nothing else of control: this is seen in the rules' `allows`, where `wp` is
+-- all that is asked of it, and in `code`, which does not ask
 abbrev pub judgedBy : Image → Bool → Image → Memory → Access → ℕ → Answer
 judgedBy now true s mem k a =
     let w : Reach = reachIn mem (control s) a in
@@ -99,13 +100,6 @@ pub record IsPlainButCount (s : Image) (mem : Memory) (k a : ℕ) (o : Outcome) 
   pub answer : butCount (o .answer) ≡ butCount (plain s mem k a .answer)
   pub memory : o .memory ≡ plain s mem k a .memory
 
-abbrev pub Equality : Type 0
-Equality =
-    (h : History) (mem : Memory) (k a : ℕ)
-    → Accepted h mem (translate k a)
-    → RootA h mem a ⊎ RootB h mem a
-    → IsPlainButCount (image h) mem k a (call (bytes h) mem (translate k a))
-
 -- in the paper's words
 abbrev pub EqualityWorded : Type 0
 EqualityWorded =
@@ -114,31 +108,10 @@ EqualityWorded =
     → WordedA h mem a ⊎ WordedB h mem a
     → IsPlainButCount (image h) mem k a (call (bytes h) mem (translate k a))
 
--- ---- drops, slot by slot: an operation leaves two zero words if it names the slot, and else the slot as it was; victim numbers stay through all but start. Of
--- hand-made images too: of any 2,048 bytes that the call accepts
--- the call, accepted at image s, names slot i with tag t. What is a PCID's and not global is the rules' `others`
-abbrev pub names : Image → Request → ℕ → ℕ → Bool
-names s (start w) i t = true
-names s (translate k a) i t = false
-names s (invlpg a) i t = canonical (control s) a && matches (pcid s) a i t
-names s (invpcid zero p a) i t = contains a i t && isPcids p t
-names s (invpcid (suc zero) p a) i t = isPcids p t
-names s (invpcid (suc (suc zero)) p a) i t = true
-names s (invpcid (suc (suc (suc n))) p a) i t = not (isGlobal t)
-names s (writeCr3 v) i t = not (isOn 63 v) && isPcids (pcidAfter s v) t
-names s (writeMode v) i t = changes v (s .flags)
-
-abbrev pub victimsAfter : Image → Request → ℕ
-victimsAfter s (start w) = 0
-victimsAfter s (translate k a) = s .victims
-victimsAfter s (invlpg a) = s .victims
-victimsAfter s (invpcid t p a) = s .victims
-victimsAfter s (writeCr3 v) = s .victims
-victimsAfter s (writeMode v) = s .victims
-
-pub record Left (b : List ℕ) (mem : Memory) (q : Request) : Type 0 where
-  pub slots : (i : ℕ) → decode (call b mem q .image) .slots i ≡ cond (names (decode b) q i (decode b .slots i .tag)) none (decode b .slots i)
-  pub victims : decode (call b mem q .image) .victims ≡ victimsAfter (decode b) q
-
-abbrev pub Drops : Type 0
-Drops = (b : List ℕ) (mem : Memory) (q : Request) → AreBytes b → isTranslate q ≡ false → refusal b mem q ≡ 0 → Left b mem q
+-- under what suffices
+abbrev pub Equality : Type 0
+Equality =
+    (h : History) (mem : Memory) (k a : ℕ)
+    → Accepted h mem (translate k a)
+    → RootA h mem a ⊎ RootB h mem a
+    → IsPlainButCount (image h) mem k a (call (bytes h) mem (translate k a))

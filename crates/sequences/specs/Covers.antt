@@ -1,16 +1,17 @@
--- What each operation covers: the list under "What each operation drops" of document 01, read for one address and for the slots of all sizes that
--- hold it, and written from that list alone. That a covered slot does go is shown in proofs/Fates.
+-- What each operation drops, and so covers: the list under these words of document 01, written once and from that list alone, by what a held slot holds.
+-- Slots, tags and sets do not come into it: that the calls drop exactly the slots that it names is claimed in `Drops`.
 use Prim.Native.Nat.{ℕ, zero, suc}
 use mathlib.Core.Bool.{Bool, true, false, cond, _&&_, _||_, not}
 use lib.Dec.{eqb}
 use Rattle.rules.specs.Bits.{isOn, field}
-use Rattle.rules.specs.Sizes.{small, pageNumber}
+use Rattle.rules.specs.Sizes.{small, middle, large, pageNumber}
 use Rattle.rules.specs.Image.{Image, control, pg, pge, pcide, nxe, pcid}
 use Rattle.rules.specs.Memory.{Memory}
 use Rattle.rules.specs.Refusals.{Request, start, translate, invlpg, invpcid, writeCr3, writeMode, canonical}
+use Rattle.rules.specs.declared.Size.{Size}
 use Rattle.sequences.specs.History.{History, image, isAccepted}
 
--- whose slots: everybody's, or those of one address space that are not everybody's
+-- whose slots: global ones, or those of one PCID that are not global
 pub data Who : Type 0 where
   global : Who
   others : ℕ → Who
@@ -23,12 +24,18 @@ abbrev pub areOf : ℕ → Who → Bool
 areOf p global = false
 areOf p (others q) = eqb q p
 
--- two addresses of one 4 KiB page lie in one page of every size. Slots of all sizes that hold an address are named through another address only
--- if the two share the smallest page: a neighbour in the same 2 MiB page may have a small page of its own
-abbrev pub samePage : ℕ → ℕ → Bool
-samePage a b = eqb (pageNumber small a) (pageNumber small b)
+-- ---- the list
+-- what a held slot holds: a page, by its size and number, and whose it is
+pub record Held : Type 0 where
+  pub size : Size
+  pub page : ℕ
+  pub who : Who
 
--- the address space that a CR3 write makes current
+-- the page contains the address
+abbrev pub hasAddress : Held → ℕ → Bool
+hasAddress x a = eqb (x .page) (pageNumber (x .size) a)
+
+-- the PCID that a CR3 write makes current
 abbrev pub pcidAfter : Image → ℕ → ℕ
 pcidAfter s v = cond (pcide (s .flags)) (field 12 0 v) 0
 
@@ -40,21 +47,28 @@ differ false b = b
 abbrev pub changes : ℕ → ℕ → Bool
 changes v f = differ (pg v) (pg f) || differ (pge v) (pge f) || differ (pcide v) (pcide f) || differ (nxe v) (nxe f)
 
--- INVPCID by its type, of space p and address b: that address in that space; that space; everything; everything that is not global
-abbrev pub typeCovers : ℕ → ℕ → ℕ → Who → ℕ → Bool
-typeCovers zero p b who a = areOf p who && samePage a b
-typeCovers (suc zero) p b who a = areOf p who
-typeCovers (suc (suc zero)) p b who a = true
-typeCovers (suc (suc (suc n))) p b who a = not (areGlobal who)
+-- INVPCID by its type: a page that contains the address, of that PCID, not global; that PCID, not global; all; all not global
+abbrev pub typeNames : ℕ → ℕ → ℕ → Held → Bool
+typeNames zero p a x = hasAddress x a && areOf p (x .who)
+typeNames (suc zero) p a x = areOf p (x .who)
+typeNames (suc (suc zero)) p a x = true
+typeNames (suc (suc (suc n))) p a x = not (areGlobal (x .who))
 
--- a call that is accepted at image s covers the slots of `who` that hold address a
+-- a call that is accepted at image s drops a slot that holds this
+abbrev pub names : Image → Request → Held → Bool
+names s (start w) x = true
+names s (translate k a) x = false
+names s (invlpg a) x = canonical (control s) a && hasAddress x a && (areGlobal (x .who) || areOf (pcid s) (x .who))
+names s (invpcid t p a) x = typeNames t p a x
+names s (writeCr3 v) x = not (isOn 63 v) && areOf (pcidAfter s v) (x .who)
+names s (writeMode v) x = changes v (s .flags)
+
+-- ---- what an operation covers: the slots of `who` that hold address a, of all sizes
+abbrev pub heldAt : Who → ℕ → Size → Held
+heldAt who a z = record { size = z; page = pageNumber z a; who = who }
+
 abbrev pub covers : Who → ℕ → Image → Request → Bool
-covers who a s (start w) = true
-covers who a s (translate k b) = false
-covers who a s (invlpg b) = canonical (control s) b && samePage a b && (areGlobal who || areOf (pcid s) who)
-covers who a s (invpcid t p b) = typeCovers t p b who a
-covers who a s (writeCr3 v) = not (isOn 63 v) && areOf (pcidAfter s v) who
-covers who a s (writeMode v) = changes v (s .flags)
+covers who a s q = names s q (heldAt who a small) && names s q (heldAt who a middle) && names s q (heldAt who a large)
 
 -- the next call, if it is this one, is accepted and covers them
 abbrev pub covered : Who → ℕ → History → Memory → Request → Bool

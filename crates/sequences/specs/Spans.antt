@@ -35,8 +35,8 @@ abbrev pub Throughout : (History → Memory → Request → Bool) → (History �
 Throughout begins P (begun b w ok) = P (begun b w ok)
 Throughout begins P (h then q with mem) = P (h then q with mem) × Unless (begins h mem q) (Throughout begins P h)
 
--- ---- only the translator changed guest memory, its bytes or its length: in the span, each accepted translate, and at last the one that is given
--- `now`, was given what the accepted translate before it left. Other calls are given no guest memory, and refused ones leave it alone: they ask nothing
+-- ---- only the translator changed guest memory, its bytes or its length: in the span, each accepted translate, and at last the one that is lent
+-- `last`, was lent what the accepted translate before it left. Other calls are given no guest memory, and refused ones leave it alone: they ask nothing
 abbrev pub isTranslate : Request → Bool
 isTranslate (start w) = false
 isTranslate (translate k a) = true
@@ -48,9 +48,9 @@ isTranslate (writeMode v) = false
 abbrev pub isMoment : History → Memory → Request → Bool
 isMoment h mem q = isTranslate q && isAccepted h mem q
 
--- guest memory `now` is what that call left
+-- guest memory `last` is what that call left
 abbrev pub IsLeft : Memory → History → Memory → Request → Type 0
-IsLeft now h mem q = now ≡ call (bytes h) mem q .memory
+IsLeft last h mem q = last ≡ call (bytes h) mem q .memory
 
 -- what is asked at a moment, and what at any other call
 abbrev pub IfMoment : Bool → Type 0 → Type 0 → Type 0
@@ -58,9 +58,9 @@ IfMoment true A B = A
 IfMoment false A B = B
 
 abbrev pub OnlyTranslator : (History → Memory → Request → Bool) → History → Memory → Type 0
-OnlyTranslator begins (begun b w ok) now = Unit {0}
-OnlyTranslator begins (h then q with mem) now =
-    Unless (begins h mem q) (IfMoment (isMoment h mem q) (IsLeft now h mem q × OnlyTranslator begins h mem) (OnlyTranslator begins h now))
+OnlyTranslator begins (begun b w ok) last = Unit {0}
+OnlyTranslator begins (h then q with mem) last =
+    Unless (begins h mem q) (IfMoment (isMoment h mem q) (IsLeft last h mem q × OnlyTranslator begins h mem) (OnlyTranslator begins h last))
 
 -- ---- a walk filled a global page that holds a: paging was on, no slot answered, and the walk found a page that is global while PGE is on
 abbrev pub slotAnswers : Image → Access → Hit → Bool
@@ -85,7 +85,7 @@ abbrev pub NoGlobalFill : ℕ → History → Type 0
 NoGlobalFill a (begun b w ok) = Unit {0}
 NoGlobalFill a (h then q with mem) = (fillsGlobal a (image h) mem q && isAccepted h mem q) ≡ false
 
--- ---- the root condition, for a translate of a that is given `mem` after h, with the span in which only the translator changed memory
+-- ---- the root condition, for a translate of a that is lent `mem` after h, with the span in which only the translator changed memory
 -- at p, a point of h, the root was that of h; or it was, if the PCID of h was current
 abbrev pub SameRoot : History → History → Type 0
 SameRoot h p = root (image p) ≡ root (image h)
@@ -93,6 +93,24 @@ SameRoot h p = root (image p) ≡ root (image h)
 abbrev pub SameRootOfPcid : History → History → Type 0
 SameRootOfPcid h p = pcid (image p) ≡ pcid (image h) → SameRoot h p
 
+-- as the paper words it: of one operation that covers the address's global slots and the current PCID's others
+abbrev pub coveredBoth : ℕ → ℕ → History → Memory → Request → Bool
+coveredBoth p a h mem q = covered global a h mem q && covered (others p) a h mem q
+
+-- (a) since the last operation that covers the address's global slots and the current PCID's others, one root was in force, that of now
+pub record WordedA (h : History) (mem : Memory) (a : ℕ) : Type 0 where
+  pub one-root : Throughout (coveredBoth (pcid (image h)) a) (SameRoot h) h
+  pub memory : OnlyTranslator (coveredBoth (pcid (image h)) a) h mem
+
+-- (b) since that operation no walk filled a global page holding the address; and since the last one that covers the current PCID's others, this PCID had one
+-- root, that of now
+pub record WordedB (h : History) (mem : Memory) (a : ℕ) : Type 0 where
+  pub no-global : Throughout (coveredBoth (pcid (image h)) a) (NoGlobalFill a) h
+  pub root-others : Throughout (covered (others (pcid (image h))) a) (SameRootOfPcid h) h
+  pub memory-others : OnlyTranslator (covered (others (pcid (image h))) a) h mem
+
+-- ---- what suffices: for each kind of slot its own last operation. Either begins no sooner than the one operation above, so that its span is a part of that
+-- one's and less is asked
 -- (a) since the last operation that covers the address's global slots, and since the last one that covers the current PCID's others, one root was in
 -- force, that of now
 pub record RootA (h : History) (mem : Memory) (a : ℕ) : Type 0 where
@@ -105,19 +123,5 @@ pub record RootA (h : History) (mem : Memory) (a : ℕ) : Type 0 where
 -- covers the current PCID's others, this PCID had one root, that of now
 pub record RootB (h : History) (mem : Memory) (a : ℕ) : Type 0 where
   pub no-global : Throughout (covered global a) (NoGlobalFill a) h
-  pub root-others : Throughout (covered (others (pcid (image h))) a) (SameRootOfPcid h) h
-  pub memory-others : OnlyTranslator (covered (others (pcid (image h))) a) h mem
-
--- ---- the same as the paper words it, of one operation that covers the global slots and the current PCID's others. It begins no later than each of the
--- two that are taken above, so that its span holds both of theirs and this asks more
-abbrev pub coveredBoth : ℕ → ℕ → History → Memory → Request → Bool
-coveredBoth p a h mem q = covered global a h mem q && covered (others p) a h mem q
-
-pub record WordedA (h : History) (mem : Memory) (a : ℕ) : Type 0 where
-  pub one-root : Throughout (coveredBoth (pcid (image h)) a) (SameRoot h) h
-  pub memory : OnlyTranslator (coveredBoth (pcid (image h)) a) h mem
-
-pub record WordedB (h : History) (mem : Memory) (a : ℕ) : Type 0 where
-  pub no-global : Throughout (coveredBoth (pcid (image h)) a) (NoGlobalFill a) h
   pub root-others : Throughout (covered (others (pcid (image h))) a) (SameRootOfPcid h) h
   pub memory-others : OnlyTranslator (covered (others (pcid (image h))) a) h mem

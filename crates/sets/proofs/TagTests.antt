@@ -9,7 +9,7 @@ use lib.Pow.{shr-shr, mod-pow-add}
 use lib.Bits.{bitAnd, bitXor, xor-add-and, xor-shr, xor-mod, xor-self, and-le-l, and-zero-r, and-mask, and-high, and-le-r}
 use borrow.Author.Tests.{eq-eqb, ne-eqb, eqb-true, eqb-false}
 use Rattle.rules.specs.Image.{isHeld, isGlobal, pcidIn, pageIn}
-use Rattle.rules.specs.Buffer.{others}
+use Rattle.rules.specs.Buffer.{ofPcid}
 use Rattle.words.proofs.Masks.{and-split, and-below}
 use Rattle.sets.specs.Ways.{isMasked}
 
@@ -47,8 +47,8 @@ pub test-not-global : (t : ℕ) → isMasked 2 0 t ≡ not (isGlobal t)
 test-not-global t =
     rw (and-high t 1 1, not-global t) (same-test (t / 2 ^ 1 % 2 ^ 1 * 2 ^ 1) 0 (t / 2 ^ 1 % 2) 0 (λ h. omega arith) (λ h. omega arith))
 
-pub test-others : (p t : ℕ) → isMasked 0x3FFE (p * 4) t ≡ others p t
-test-others p t =
+pub test-of-pcid : (p t : ℕ) → isMasked 0x3FFE (p * 4) t ≡ ofPcid p t
+test-of-pcid p t =
     let d : t / 2 ^ 1 % 2 ^ 13 ≡ pcidIn t * 2 + t / 2 ^ 1 % 2 = rw (shr-shr t 1 1) at (mod-pow-add (t / 2 ^ 1) 12 1) in
     rw (and-high t 13 1, not-global t, d) (go (pcidIn t) (t / 2 ^ 1 % 2) (omega arith))
   where
@@ -63,8 +63,8 @@ test-held t = rw (and-mask t 1) (same-test (t % 2 ^ 1) 1 (t / 2 ^ 0 % 2) 1 (λ h
 pub test-global : (t : ℕ) → isMasked 2 2 t ≡ isGlobal t
 test-global t = rw (and-high t 1 1) (same-test (t / 2 ^ 1 % 2 ^ 1 * 2 ^ 1) 2 (t / 2 ^ 1 % 2) 1 (λ h. omega arith) (λ h. omega arith))
 
-pub test-space : (p t : ℕ) → isMasked 0x3FFC (p * 4) t ≡ eqb (pcidIn t) p
-test-space p t = rw (and-high t 12 2) (same-test (pcidIn t * 2 ^ 2) (p * 4) (pcidIn t) p (λ h. omega arith) (λ h. omega arith))
+pub test-pcid : (p t : ℕ) → isMasked 0x3FFC (p * 4) t ≡ eqb (pcidIn t) p
+test-pcid p t = rw (and-high t 12 2) (same-test (pcidIn t * 2 ^ 2) (p * 4) (pcidIn t) p (λ h. omega arith) (λ h. omega arith))
 
 -- ---- a page number, and a mask below it
 module _ (mask t : ℕ) (h : mask < 2 ^ 14) where
@@ -78,7 +78,7 @@ module _ (mask t : ℕ) (h : mask < 2 ^ 14) where
       (both-tests (pageIn t * 2 ^ 14 + bitAnd (t % 2 ^ 14) mask) (n * 0x4000 + want) (pageIn t) n (bitAnd (t % 2 ^ 14) mask) want
       (λ d e. omega arith) (λ d. omega arith) (λ d. omega arith))
 
--- ---- where a tag differs from that of a page in use: nowhere under the mask of page number and held bit, if it is that page's and in use
+-- ---- where a tag differs from that of a held page: nowhere under the mask of page number and held bit, if it is that page's and held
 no-difference : (x y : ℕ) → bitXor x y ≡ 0 → x ≡ y
 no-difference x y e = omega (arith, xor-add-and x y, and-le-l x y, and-le-r x y)
 

@@ -13,7 +13,7 @@ tagIn b i = decode b .slots i .tag
 abbrev pub tagsIn : List ℕ → ℕ → ℕ
 tagsIn b s = bitOr (bitOr (bitOr (tagIn b (4 * s)) (tagIn b (4 * s + 1))) (tagIn b (4 * s + 2))) (tagIn b (4 * s + 3))
 
--- one of some slots is in use
+-- one of some slots is held
 abbrev pub anyHeld : List ℕ → List ℕ → Bool
 anyHeld b [] = false
 anyHeld b (i ∷ is) = isHeld (tagIn b i) || anyHeld b is

@@ -4,7 +4,7 @@ ghost use Prim.Native.Nat.{_<_};
 ghost use lib.ListN.{length};
 ghost use Rattle.sets.specs.Ways.{tagsIn};
 
-// Or-ed: 0 exactly if each is, and odd exactly if one of them is in use.
+// Or-ed: 0 exactly if each is, and odd exactly if one of them is held.
 pub fn tags_in(image: &[u8], set: usize) -> u64
     requires { ⌜ (length (now image) ≡ 2048) × (set < 25) ⌝ }
     ensures { λ r. ⌜ r ≡ tagsIn (now (image .entry)) set ⌝ }

@@ -8,18 +8,18 @@ use native.Mathlib.Numerals.{add-one}
 use lib.ListN.{length, take, set, replicate, length-replicate}
 use lib.Seq.{take-suc-set, take-all}
 use Rattle.rules.specs.Bits.{AreBytes, isOn, wordAt, wordPut}
-use Rattle.rules.specs.Image.{Image, started, encode, decode, control, pcid}
+use Rattle.rules.specs.Image.{Image, started, encode, decode, control, pcid, Sound, IsImage}
 use Rattle.rules.specs.Memory.{Memory}
 use Rattle.rules.specs.Refusals.{Request, start, invlpg, invpcid, writeCr3, writeMode, canonical, refusal}
 use Rattle.rules.specs.Calls.{withCr3, withFlags, isSame, sameMode, invpcidDrops, accepted, done, Outcome, encoded, byNumber}
-use Rattle.rules.specs.Buffer.{matches, others, dropped}
+use Rattle.rules.specs.Buffer.{matches, ofPcid, dropped}
 use Rattle.rules.specs.declared.Control.{Control}
 use Rattle.rules.specs.declared.Answer.{Answer}
 use Rattle.rules.specs.declared.Answer.the-variants.{Refused, Done}
-use Rattle.rules.proofs.ImageLaws.{Sound, cr3-bytes, flags-bytes, decode-encode}
-use Rattle.rules.proofs.PlaceLaws.{IsImage, is-encoded, flags-at, sound-flags, sound-cr3}
+use Rattle.rules.proofs.ImageLaws.{cr3-bytes, flags-bytes, decode-encode}
+use Rattle.rules.proofs.PlaceLaws.{is-encoded, flags-at, sound-flags, sound-cr3}
 use Rattle.rules.proofs.RefusalLaws.{given, Later, fits, fit-image}
-use Rattle.drops.specs.Drops.{droppedIn, every, notGlobal, ofSpace, ofSpaceAt}
+use Rattle.drops.specs.Drops.{droppedIn, every, notGlobal, everyOf, everyOfAt}
 use Rattle.translator.specs.Contract.{Leaves}
 
 -- ---- clear
@@ -98,10 +98,10 @@ module _ (t p a n : ℕ) (b b′ : List ℕ) (h : n ≡ refusal b [] (invpcid t 
       does (invpcid t p a) b b′ n (dropped (invpcidDrops t p a) (decode b)) (λ mem. refl) (λ mem. refl) h z
       (e ∙ ap (λ (v : ℕ). encode (dropped (invpcidDrops v p a) (decode b))) (sym q))
 
-  pub invpcid-0 : t ≡ 0 → b′ ≡ droppedIn (ofSpaceAt p a) b → Leaves (invpcid t p a) b b′ Done
+  pub invpcid-0 : t ≡ 0 → b′ ≡ droppedIn (everyOfAt p a) b → Leaves (invpcid t p a) b b′ Done
   invpcid-0 q e = by-type 0 q e
 
-  pub invpcid-1 : t ≡ 1 → b′ ≡ droppedIn (ofSpace p) b → Leaves (invpcid t p a) b b′ Done
+  pub invpcid-1 : t ≡ 1 → b′ ≡ droppedIn (everyOf p) b → Leaves (invpcid t p a) b b′ Done
   invpcid-1 q e = by-type 1 q e
 
   pub invpcid-2 : t ≡ 2 → b′ ≡ droppedIn every b → Leaves (invpcid t p a) b b′ Done
@@ -116,9 +116,9 @@ module _ (t p a n : ℕ) (b b′ : List ℕ) (h : n ≡ refusal b [] (invpcid t 
       go (suc (suc zero)) q = absurd (k q)
       go (suc (suc (suc u))) q = by-type (suc (suc (suc u))) q e
 
-  -- the address space is one of 4096
-  pub space-lt : p < 4096
-  space-lt = omega (arith, given b [] (invpcid t p a) (sym h ∙ z) .1)
+  -- the PCID is one of 4,096
+  pub asked-pcid-lt : p < 4096
+  asked-pcid-lt = omega (arith, given b [] (invpcid t p a) (sym h ∙ z) .1)
 
 -- ---- a CR3 write
 module _ (v n : ℕ) (b b₁ : List ℕ) (was : IsImage b) (h : n ≡ refusal b [] (writeCr3 v)) (z : n ≡ 0) (put : b₁ ≡ wordPut b 16 (v % 2 ^ 63)) where
@@ -139,15 +139,15 @@ module _ (v n : ℕ) (b b₁ : List ℕ) (was : IsImage b) (h : n ≡ refusal b 
 
   pub cr3-keeps : (k : Bool) → k ≡ isOn 63 v → k ≡ true → Leaves (writeCr3 v) b b₁ Done
   cr3-keeps k e t =
-      does (writeCr3 v) b b₁ n (dropped (λ i u. not (isOn 63 v) && others (pcid rooted) u) rooted) (λ mem. refl) (λ mem. refl) h z (rw (← e, t) rooted-bytes)
+      does (writeCr3 v) b b₁ n (dropped (λ i u. not (isOn 63 v) && ofPcid (pcid rooted) u) rooted) (λ mem. refl) (λ mem. refl) h z (rw (← e, t) rooted-bytes)
 
-  pub cr3-drops : (k : Bool) → k ≡ isOn 63 v → k ≡ false → (p : ℕ) (b₂ : List ℕ) → p ≡ pcid (decode b₁) → b₂ ≡ droppedIn (ofSpace p) b₁
+  pub cr3-drops : (k : Bool) → k ≡ isOn 63 v → k ≡ false → (p : ℕ) (b₂ : List ℕ) → p ≡ pcid (decode b₁) → b₂ ≡ droppedIn (everyOf p) b₁
       → Leaves (writeCr3 v) b b₂ Done
   unfolding droppedIn
   cr3-drops k e t p b₂ hp d =
       let r : decode b₁ ≡ rooted = ap decode rooted-bytes ∙ decode-encode rooted rooted-sound in
-      does (writeCr3 v) b b₂ n (dropped (λ i u. not (isOn 63 v) && others (pcid rooted) u) rooted) (λ mem. refl) (λ mem. refl) h z
-      (rw (← e, t) (d ∙ ap₂ (λ (y : ℕ) (s : Image). encode (dropped (λ i u. others y u) s)) (hp ∙ ap pcid r) r))
+      does (writeCr3 v) b b₂ n (dropped (λ i u. not (isOn 63 v) && ofPcid (pcid rooted) u) rooted) (λ mem. refl) (λ mem. refl) h z
+      (rw (← e, t) (d ∙ ap₂ (λ (y : ℕ) (s : Image). encode (dropped (λ i u. ofPcid y u) s)) (hp ∙ ap pcid r) r))
 
 -- ---- a mode write
 module _ (v n f : ℕ) (b b₁ : List ℕ) (was : IsImage b) (h : n ≡ refusal b [] (writeMode v)) (z : n ≡ 0) (old : f ≡ wordAt b 8)

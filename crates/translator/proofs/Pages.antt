@@ -10,11 +10,11 @@ use Rattle.rules.specs.declared.Rights.{Rights}
 use Rattle.rules.specs.declared.Found.{Found}
 use Rattle.rules.specs.declared.Found.the-variants.{Page}
 use Rattle.rules.proofs.SizeLaws.{size-at, length-in}
-use Rattle.translator.specs.Contract.{Fits}
+use Rattle.translator.specs.Contract.{InRange}
 
-module _ (f : Found) (base level n : ℕ) (r : Rights) (g d : Bool) (z : Size) (fits : Fits f) (e : f ≡ Page base level r g d n) (size : z ≡ sizeAt level) where
-  page-fits : Fits (Page base level r g d n)
-  page-fits = subst Fits e fits
+module _ (f : Found) (base level n : ℕ) (r : Rights) (g d : Bool) (z : Size) (fits : InRange f) (e : f ≡ Page base level r g d n) (size : z ≡ sizeAt level) where
+  page-fits : InRange (Page base level r g d n)
+  page-fits = subst InRange e fits
 
   pub page-is : Is z
   page-is = subst Is (sym size) (size-at level (page-fits .1 .0) (page-fits .1 .1))

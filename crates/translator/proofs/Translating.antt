@@ -7,7 +7,7 @@ use native.Mathlib.Omega.{arith}
 use lib.ListN.{length}
 use Rattle.rules.specs.Bits.{AreBytes, isOn, part, wordAt}
 use Rattle.rules.specs.Sizes.{Is, is-small, is-middle, is-large, shift, sizeAt, sizeOf, pageNumber}
-use Rattle.rules.specs.Image.{Image, encode, decode, control, pg, pcid, tagOf, datumOf}
+use Rattle.rules.specs.Image.{Image, encode, decode, control, pg, pcid, tagOf, datumOf, IsImage}
 use Rattle.rules.specs.Memory.{Memory, entryAt}
 use Rattle.rules.specs.Walk.{Walked, walk, reachIn}
 use Rattle.rules.specs.Buffer.{matches, hit, miss, find, serves, hitAddress, dropped, filled}
@@ -26,7 +26,7 @@ use Rattle.rules.specs.declared.Answer.the-variants.{Address, PageFault, Refuse
 use Rattle.rules.proofs.SizeLaws.{size-of, level-at, base-lt, base-low, length-in}
 use Rattle.rules.proofs.SlotLaws.{nothing-dropped}
 use Rattle.rules.proofs.WalkLaws.{IsLeaf, is-leaf, leaf-lt, found-cases}
-use Rattle.rules.proofs.PlaceLaws.{IsImage, width-at, flags-at, cr3-at, datum-at}
+use Rattle.rules.proofs.PlaceLaws.{width-at, flags-at, cr3-at, datum-at}
 use Rattle.walk.specs.Packed.{Ready}
 use Rattle.buffer.specs.declared.look.Place.{Place}
 use Rattle.buffer.specs.declared.look.Place.the-variants.{At, Nowhere}
@@ -35,8 +35,8 @@ use Rattle.buffer.specs.Fill.{filledAt}
 use Rattle.rules.proofs.RefusalLaws.{Given, given, fit-image}
 use Rattle.drops.specs.Drops.{droppedIn}
 use Rattle.drops.proofs.DropLaws.{image-dropped, says-dropped}
-use Rattle.numbers.specs.Needs.{IsSpace}
-use Rattle.translator.specs.Contract.{Translates, Usable, Gives, missed, Fits, Finishes}
+use Rattle.numbers.specs.Needs.{IsPcid}
+use Rattle.translator.specs.Contract.{Translates, Usable, Encodes, missed, InRange, Finishes}
 
 -- ---- what a walk goes by
 pub over-root : (b : List ℕ) (w : ℕ) → Usable b → w ≡ wordAt b 0 → 12 ≤ w
@@ -45,7 +45,7 @@ over-root b w u e = omega (arith, u .wide, width-at b)
 pub in-word : (b : List ℕ) (w : ℕ) → Usable b → w ≡ wordAt b 0 → w < 64
 in-word b w u e = omega (arith, u .narrow, width-at b)
 
-pub control-is : (b : List ℕ) (w f v n p : ℕ) → w ≡ wordAt b 0 → f ≡ wordAt b 8 → v ≡ wordAt b 16 → n ≡ part w 12 v → IsSpace b p
+pub control-is : (b : List ℕ) (w f v n p : ℕ) → w ≡ wordAt b 0 → f ≡ wordAt b 8 → v ≡ wordAt b 16 → n ≡ part w 12 v → IsPcid b p
     → _≡_ {A = Control} (record { width = w; flags = f; root = n; pcid = p }) (control (decode b))
 control-is b w f v n p hw hf hv hn sp =
     rw (← sp .current) (rw (width-at b, flags-at b, cr3-at b, ← hw, ← hf, ← hv, ← hn))
@@ -63,12 +63,12 @@ walk-ready b mem c u h e =
 
 -- ---- what a walk finds is in range
 pub found-fits : (b : List ℕ) (c : Control) (k : Access) (a : ℕ) (mem mem′ : Memory) (f : Found) → Usable b → c ≡ control (decode b)
-    → _≡_ {A = Walked} (record { found = f; memory = mem′ }) (walk c k a mem) → Fits f
+    → _≡_ {A = Walked} (record { found = f; memory = mem′ }) (walk c k a mem) → InRange f
 found-fits b c k a mem mem′ f u e w =
     let narrow : c .width ≤ 52 = rw e (u .narrow) in
     let q : f ≡ walk c k a mem .found = ap (λ (x : Walked). x .found) w in
-    subst Fits (sym q)
-    (found-cases c k (reachIn mem c a .read) Fits (reachIn mem c a .end)
+    subst InRange (sym q)
+    (found-cases c k (reachIn mem c a .read) InRange (reachIn mem c a .end)
     (λ p d g. let l : IsLeaf (entryAt mem) c p = is-leaf mem c a p d in (leaf-lt (entryAt mem) c p l narrow, (l .low, l .high))) (λ cause. tt))
 
 -- ---- what it finds is kept, and answered
@@ -79,17 +79,17 @@ its-level z is-large = refl
 
 pub kept-page : (base : ℕ) (r : Rights) (g d : Bool) (z : Size) (b b′ : List ℕ) (a p number set w tag datum : ℕ) (q : Bool)
     → Is z → number ≡ pageNumber z a → set ≡ z .first + number % z .sets
-    → w ≡ wordAt b 8 → q ≡ isOn 2 w → IsSpace b p → tag ≡ tagOf (q && g) p number → datum ≡ datumOf r d base
+    → w ≡ wordAt b 8 → q ≡ isOn 2 w → IsPcid b p → tag ≡ tagOf (q && g) p number → datum ≡ datumOf r d base
     → b′ ≡ encode (filledAt set tag datum (decode b)) → b′ ≡ encode (filled (decode b) a (Page base (z .level) r g d 0))
 kept-page base r g d z b b′ a p number set w tag datum q is num hs hw hq sp ht hd k =
     let hg : q ≡ isOn 2 (decode b .flags) = rw (flags-at b, ← hw) hq in
     rw (its-level z is, ← num, ← hs, ← hg, ← sp .current, ← ht, ← hd) k
 
 pub finish-page : (f : Found) (base level n : ℕ) (r : Rights) (g d : Bool) (z : Size) (b b′ : List ℕ) (k : Access) (a : ℕ)
-    → Fits f → f ≡ Page base level r g d n → z ≡ sizeAt level → b′ ≡ encode (filled (decode b) a (Page base (z .level) r g d 0))
+    → InRange f → f ≡ Page base level r g d n → z ≡ sizeAt level → b′ ≡ encode (filled (decode b) a (Page base (z .level) r g d 0))
     → Finishes b b′ k a f (Address (base + a % z .length) (z .length) n)
 finish-page f base level n r g d z b b′ k a h e size i =
-    let q : Fits (Page base level r g d n) = subst Fits e h in
+    let q : InRange (Page base level r g d n) = subst InRange e h in
     let l : z .level ≡ level = ap (λ (x : Size). x .level) size ∙ level-at level (q .1 .0) (q .1 .1) in
     record {
       image = i ∙ ap (λ (x : ℕ). encode (filled (decode b) a (Page base x r g d n))) l ∙ ap (λ (x : Found). encode (filled (decode b) a x)) (sym e);
@@ -102,9 +102,9 @@ finish-fault f cause level n m b k a e u h = record { image = rw e (sym (u .says
 
 pub misses : (b b′ : List ℕ) (mem mem′ : Memory) (c : Control) (t : ℕ) (k : Access) (a : ℕ) (f : Found) (r : Answer) → c ≡ control (decode b)
     → k ≡ accessOf t → _≡_ {A = Walked} (record { found = f; memory = mem′ }) (walk c k a mem) → Finishes b b′ k a f r
-    → Gives (missed (decode b) mem (accessOf t) a) b′ mem′ r
+    → Encodes (missed (decode b) mem (accessOf t) a) b′ mem′ r
 misses b b′ mem mem′ c t k a f r e y w h =
-    subst (λ (x : Access). Gives (missed (decode b) mem x a) b′ mem′ r) y
+    subst (λ (x : Access). Encodes (missed (decode b) mem x a) b′ mem′ r) y
     (let v : _≡_ {A = Walked} (record { found = f; memory = mem′ }) (walk (control (decode b)) k a mem) = w ∙ ap (λ (x : Control). walk x k a mem) e in
     let q : f ≡ walk (control (decode b)) k a mem .found = ap (λ (x : Walked). x .found) v in
     record {
@@ -156,29 +156,29 @@ module _ (b : List ℕ) (mem : Memory) (k : Access) (a i l d w : ℕ) (o : Place
   looked-is = ap (looked (decode b) mem k a) found-slot ∙ ap (λ (x : Bool). servedIf x (decode b) mem k a i) (sym found-serves)
 
   pub serves-held : v ≡ true → IsImage b → (x : ℕ) → x ≡ d % 2 ^ 52 / l * l + a % l
-      → Gives (looked (decode b) mem k a (find (decode b) a)) b mem (Address x l 0)
+      → Encodes (looked (decode b) mem k a (find (decode b) a)) b mem (Address x l 0)
   serves-held t u x h =
       let q : l ≡ sizeOf i .length = found-at b a i l o looks e .right .1 in
       let m : x ≡ hitAddress (sizeOf i) (decode b .slots i .datum) a = h ∙ rw (q, held-datum, base-is (sizeOf i) (decode b .slots i .datum) (size-of i)) in
       let g : looked (decode b) mem k a (find (decode b) a) ≡ served (decode b) mem a i = looked-is ∙ ap (λ (x : Bool). servedIf x (decode b) mem k a i) t in
       rw g (record { answer = λ j. Address (m j) (q j) 0; image = sym (u .says); memory = refl })
 
-  pub walks-again : v ≡ false → IsImage b → (p : ℕ) (b₁ b₂ : List ℕ) (mem′ : Memory) (r : Answer) → IsSpace b p → b₁ ≡ droppedIn (matches p a) b
-      → Gives (missed (decode b₁) mem k a) b₂ mem′ r → Gives (looked (decode b) mem k a (find (decode b) a)) b₂ mem′ r
+  pub walks-again : v ≡ false → IsImage b → (p : ℕ) (b₁ b₂ : List ℕ) (mem′ : Memory) (r : Answer) → IsPcid b p → b₁ ≡ droppedIn (matches p a) b
+      → Encodes (missed (decode b₁) mem k a) b₂ mem′ r → Encodes (looked (decode b) mem k a (find (decode b) a)) b₂ mem′ r
   walks-again t u p b₁ b₂ mem′ r sp h g =
       let s : decode b₁ ≡ dropped (matches (pcid (decode b)) a) (decode b) =
       ap decode h ∙ says-dropped (matches p a) b u ∙ ap (λ (y : ℕ). dropped (matches y a) (decode b)) (sp .current) in
       let n : missed (decode b₁) mem k a ≡ walked (decode b) mem k a = ap (λ (x : Image). missed x mem k a) s in
       let m : looked (decode b) mem k a (find (decode b) a) ≡ walked (decode b) mem k a = looked-is ∙ ap (λ (x : Bool). servedIf x (decode b) mem k a i) t in
-      subst (λ (x : After). Gives x b₂ mem′ r) (n ∙ sym m) g
+      subst (λ (x : After). Encodes x b₂ mem′ r) (n ∙ sym m) g
 
 pub walks-first : (b b′ : List ℕ) (mem mem′ : Memory) (k : Access) (a : ℕ) (o : Place) (r : Answer) → Looks b a o → o ≡ Nowhere
-    → Gives (missed (decode b) mem k a) b′ mem′ r → Gives (looked (decode b) mem k a (find (decode b) a)) b′ mem′ r
+    → Encodes (missed (decode b) mem k a) b′ mem′ r → Encodes (looked (decode b) mem k a (find (decode b) a)) b′ mem′ r
 walks-first b b′ mem mem′ k a o r looks e g =
     let h : find (decode b) a ≡ miss = sym (looks .first) ∙ ap hitOf e in
     let n : walked (decode b) mem k a ≡ missed (decode b) mem k a =
     ap (λ (x : Image). record { answer = answerOf (control (decode b)) k a (walk (control (decode b)) k a mem .found); image = filled x a (walk (control (decode b)) k a mem .found); memory = walk (control (decode b)) k a mem .memory }) (nothing-dropped (decode b) a h) in
-    subst (λ (x : After). Gives x b′ mem′ r) (sym (ap (looked (decode b) mem k a) h ∙ n)) g
+    subst (λ (x : After). Encodes x b′ mem′ r) (sym (ap (looked (decode b) mem k a) h ∙ n)) g
 
 -- ---- an image out of which something was dropped
 pub usable-dropped : (q : ℕ → ℕ → Bool) (b b₁ : List ℕ) → Usable b → b₁ ≡ droppedIn q b → Usable b₁
@@ -187,8 +187,8 @@ usable-dropped q b b₁ u h =
     let w : decode b₁ .width ≡ decode b .width = ap (λ (x : Image). x .width) s in
     record { image = image-dropped q b b₁ (u .image) h; wide = rw w (u .wide); narrow = rw w (u .narrow) }
 
-pub space-dropped : (q : ℕ → ℕ → Bool) (b b₁ : List ℕ) (p : ℕ) → Usable b → IsSpace b p → b₁ ≡ droppedIn q b → IsSpace b₁ p
-space-dropped q b b₁ p u sp h =
+pub pcid-stays : (q : ℕ → ℕ → Bool) (b b₁ : List ℕ) (p : ℕ) → Usable b → IsPcid b p → b₁ ≡ droppedIn q b → IsPcid b₁ p
+pcid-stays q b b₁ p u sp h =
     let s : decode b₁ ≡ dropped q (decode b) = ap decode h ∙ says-dropped q b (u .image) in
     record { current = sp .current ∙ sym (ap pcid s); low = sp .low }
 
@@ -220,7 +220,7 @@ module _ (b : List ℕ) (mem : Memory) (k a n : ℕ) (h : n ≡ refusal b mem (t
     accepts-it b′ mem′ r e = record { outcome = e ∙ ap (byNumber b mem (translate k a)) (sym z ∙ h) }
 
     pub pages : (w : ℕ) (p : Bool) (b′ : List ℕ) (mem′ : Memory) (r : Answer) → w ≡ wordAt b 8 → p ≡ isOn 0 w → p ≡ true
-        → Gives (looked (decode b) mem (accessOf k) a (find (decode b) a)) b′ mem′ r → Translates (translate k a) b b′ mem mem′ r
+        → Encodes (looked (decode b) mem (accessOf k) a (find (decode b) a)) b′ mem′ r → Translates (translate k a) b b′ mem mem′ r
     pages w p b′ mem′ r hw hp on g =
         let o : pg (decode b .flags) ≡ true = ap (isOn 0) (flags-at b ∙ sym hw) ∙ sym hp ∙ on in
         accepts-it b′ mem′ r

@@ -2,7 +2,7 @@
 use mathlib.Core.Path.{_≡_}
 use mathlib.Core.List.{List}
 use Prim.Native.Nat.{ℕ, _^_, _≤_, _<_}
-use Rattle.rules.specs.Image.{Image, encode, decode, control}
+use Rattle.rules.specs.Image.{Image, encode, decode, control, IsImage}
 use Rattle.rules.specs.Memory.{Memory}
 use Rattle.rules.specs.Walk.{walk}
 use Rattle.rules.specs.Buffer.{filled}
@@ -14,7 +14,6 @@ use Rattle.rules.specs.declared.Access.{Access}
 use Rattle.rules.specs.declared.Found.{Found}
 use Rattle.rules.specs.declared.Found.the-variants.{Page, Fault}
 use Rattle.rules.specs.declared.Answer.{Answer}
-use Rattle.rules.proofs.PlaceLaws.{IsImage}
 
 -- a call that is lent no guest memory, whatever guest memory there is
 pub record Leaves (q : Request) (b b′ : List ℕ) (r : Answer) : Type 0 where
@@ -32,7 +31,7 @@ pub record Usable (b : List ℕ) : Type 0 where
   pub narrow : decode b .width ≤ 52
 
 -- the bytes, memory and answer of an outcome over parts
-pub record Gives (o : After) (b′ : List ℕ) (mem′ : Memory) (r : Answer) : Type 0 where
+pub record Encodes (o : After) (b′ : List ℕ) (mem′ : Memory) (r : Answer) : Type 0 where
   pub answer : r ≡ o .answer
   pub image : b′ ≡ encode (o .image)
   pub memory : mem′ ≡ o .memory
@@ -47,9 +46,9 @@ missed s mem k a =
     }
 
 -- a finding as a walk makes it: a page's base and level are in their ranges
-abbrev pub Fits : Found → Type 0
-Fits (Page base level r global dirty n) = (base < 2 ^ 52) × ((1 ≤ level) × (level ≤ 3))
-Fits (Fault cause level n) = Unit {0}
+abbrev pub InRange : Found → Type 0
+InRange (Page base level r global dirty n) = (base < 2 ^ 52) × ((1 ≤ level) × (level ≤ 3))
+InRange (Fault cause level n) = Unit {0}
 
 -- a finding is filled into the image, and answered
 pub record Finishes (b b′ : List ℕ) (k : Access) (a : ℕ) (f : Found) (r : Answer) : Type 0 where

@@ -39,27 +39,27 @@ pub fn invlpg(image: &mut [u8], a: u64) -> Answer
         return Answer::Refused { number };
     }
     if refusals::is_canonical(a) {
-        let space = numbers::pcid_of(image);
-        drops::drop_matches(image, a, space);
+        let pcid = numbers::pcid_of(image);
+        drops::drop_matches(image, a, pcid);
         return Answer::Done;
     }
     Answer::Done
 }
 
-// Slots are dropped by the type: an address in one space, one space, all, all that are not everybody's.
-pub fn invpcid(image: &mut [u8], kind: u64, space: u64, a: u64) -> Answer
-    ensures { λ r. ⌜ Leaves (invpcidOf kind space a) (now (image .entry)) (now (image .exit)) r ⌝ }
+// Slots are dropped by the type: an address of one PCID, one PCID, all, all that are not global.
+pub fn invpcid(image: &mut [u8], kind: u64, pcid: u64, a: u64) -> Answer
+    ensures { λ r. ⌜ Leaves (invpcidOf kind pcid a) (now (image .entry)) (now (image .exit)) r ⌝ }
 {
-    let number = refusals::invpcid_refusal(image, kind, space, a);
+    let number = refusals::invpcid_refusal(image, kind, pcid, a);
     if number != 0 {
         return Answer::Refused { number };
     }
     if kind == 0 {
-        drops::drop_address(image, a, space);
+        drops::drop_address(image, a, pcid);
         return Answer::Done;
     }
     if kind == 1 {
-        drops::drop_others(image, space);
+        drops::drop_pcid(image, pcid);
         return Answer::Done;
     }
     if kind == 2 {
@@ -70,7 +70,7 @@ pub fn invpcid(image: &mut [u8], kind: u64, space: u64, a: u64) -> Answer
     Answer::Done
 }
 
-// CR3 is written; the slots of the space that it makes current are dropped, unless bit 63 says not to.
+// CR3 is written; the slots of the PCID that it makes current are dropped, unless bit 63 says not to.
 pub fn write_cr3(image: &mut [u8], value: u64) -> Answer
     ensures { λ r. ⌜ Leaves (writeCr3 value) (now (image .entry)) (now (image .exit)) r ⌝ }
 {
@@ -82,8 +82,8 @@ pub fn write_cr3(image: &mut [u8], value: u64) -> Answer
     if words::is_on(63, value) {
         return Answer::Done;
     }
-    let space = numbers::pcid_of(image);
-    drops::drop_others(image, space);
+    let pcid = numbers::pcid_of(image);
+    drops::drop_pcid(image, pcid);
     Answer::Done
 }
 

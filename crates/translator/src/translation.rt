@@ -2,15 +2,14 @@
 ghost use mathlib.Core.Path.{_≡_};
 ghost use Prim.Native.Nat.{_%_, _^_, _≤_, _<_};
 ghost use lib.ListN.{length};
-ghost use Rattle.rules.specs.Image.{encode, decode, control};
+ghost use Rattle.rules.specs.Image.{encode, decode, control, IsImage};
 ghost use Rattle.rules.specs.Buffer.{filled, find};
 ghost use Rattle.rules.specs.Calls.{accessOf, looked};
 ghost use Rattle.rules.specs.Sizes.{Is};
 ghost use Rattle.rules.specs.declared.Found.the-variants.{Page};
 ghost use Rattle.rules.specs.Refusals.{translate as translateOf};
-ghost use Rattle.rules.proofs.PlaceLaws.{IsImage};
-ghost use Rattle.numbers.specs.Needs.{IsSpace};
-ghost use Rattle.translator.specs.Contract.{Translates, Usable, Gives, missed as missedOf, Fits, Finishes};
+ghost use Rattle.numbers.specs.Needs.{IsPcid};
+ghost use Rattle.translator.specs.Contract.{Translates, Usable, Encodes, missed as missedOf, InRange, Finishes};
 use buffer::look;
 use buffer::look::Place;
 use rules::Access;
@@ -22,8 +21,8 @@ use rules::Size;
 use sets::size;
 
 // What a walk goes by.
-fn control_of(image: &[u8], space: u64) -> Control
-    requires { ⌜ Usable (now image) × IsSpace (now image) space ⌝ }
+fn control_of(image: &[u8], pcid: u64) -> Control
+    requires { ⌜ Usable (now image) × IsPcid (now image) pcid ⌝ }
     ensures { λ r. ⌜ r ≡ control (decode (now (image .entry))) ⌝ }
 {
     let width = words::read_word(image, 0);
@@ -31,7 +30,7 @@ fn control_of(image: &[u8], space: u64) -> Control
         width,
         flags: words::read_word(image, 8),
         root: words::part(width, 12, words::read_word(image, 16)),
-        pcid: space,
+        pcid,
     }
 }
 
@@ -40,25 +39,25 @@ fn keep(
     image: &mut [u8],
     z: Size,
     a: u64,
-    space: u64,
+    pcid: u64,
     r: Rights,
     global: bool,
     dirty: bool,
     base: u64,
 )
-    requires { ⌜ IsImage (now image) × (IsSpace (now image) space × (Is z × (base < 2 ^ 52))) ⌝ }
+    requires { ⌜ IsImage (now image) × (IsPcid (now image) pcid × (Is z × (base < 2 ^ 52))) ⌝ }
     ensures { λ _. ⌜ now (image .exit) ≡ encode (filled (decode (now (image .entry))) a (Page base (z .level) r global dirty 0)) ⌝ }
 {
     let number = size::page_number(z, a);
     let set = size::set_of(z, number) as usize;
     let shared = words::is_on(2, words::read_word(image, 8)) & global;
-    let tag = numbers::tag_of(shared, space, number);
+    let tag = numbers::tag_of(shared, pcid, number);
     buffer::fill::fill(image, set, tag, numbers::datum_of(r, dirty, base));
 }
 
 // What a walk found is answered; a page is kept as well.
-fn finish(image: &mut [u8], space: u64, k: Access, a: u64, f: Found) -> Answer
-    requires { ⌜ IsImage (now image) × (IsSpace (now image) space × Fits f) ⌝ }
+fn finish(image: &mut [u8], pcid: u64, k: Access, a: u64, f: Found) -> Answer
+    requires { ⌜ IsImage (now image) × (IsPcid (now image) pcid × InRange f) ⌝ }
     ensures { λ r. ⌜ Finishes (now (image .entry)) (now (image .exit)) k a f r ⌝ }
 {
     match f {
@@ -71,7 +70,7 @@ fn finish(image: &mut [u8], space: u64, k: Access, a: u64, f: Found) -> Answer
             read,
         } => {
             let z = size::size_at(level);
-            keep(image, z, a, space, rights, global, dirty, base);
+            keep(image, z, a, pcid, rights, global, dirty, base);
             let size = z.length;
             let value = base + a % size;
             Answer::Address { value, size, read }
@@ -89,23 +88,23 @@ fn finish(image: &mut [u8], space: u64, k: Access, a: u64, f: Found) -> Answer
 }
 
 // The walk is made, and finished.
-fn missed(image: &mut [u8], mem: &mut [u8], space: u64, kind: u64, a: u64) -> Answer
-    requires { ⌜ Usable (now image) × ((length (now mem) % 8 ≡ 0) × (IsSpace (now image) space × (kind ≤ 5))) ⌝ }
-    ensures { λ r. ⌜ Gives (missedOf (decode (now (image .entry))) (now (mem .entry)) (accessOf kind) a) (now (image .exit)) (now (mem .exit)) r ⌝ }
+fn missed(image: &mut [u8], mem: &mut [u8], pcid: u64, kind: u64, a: u64) -> Answer
+    requires { ⌜ Usable (now image) × ((length (now mem) % 8 ≡ 0) × (IsPcid (now image) pcid × (kind ≤ 5))) ⌝ }
+    ensures { λ r. ⌜ Encodes (missedOf (decode (now (image .entry))) (now (mem .entry)) (accessOf kind) a) (now (image .exit)) (now (mem .exit)) r ⌝ }
 {
     let k = numbers::access_of(kind);
-    let c = control_of(image, space);
+    let c = control_of(image, pcid);
     let f = walk::walk(mem, c, k, a);
-    finish(image, space, k, a, f)
+    finish(image, pcid, k, a, f)
 }
 
 // With paging on.
 fn paged(image: &mut [u8], mem: &mut [u8], kind: u64, a: u64) -> Answer
     requires { ⌜ Usable (now image) × ((length (now mem) % 8 ≡ 0) × (kind ≤ 5)) ⌝ }
-    ensures { λ r. ⌜ Gives (looked (decode (now (image .entry))) (now (mem .entry)) (accessOf kind) a (find (decode (now (image .entry))) a)) (now (image .exit)) (now (mem .exit)) r ⌝ }
+    ensures { λ r. ⌜ Encodes (looked (decode (now (image .entry))) (now (mem .entry)) (accessOf kind) a (find (decode (now (image .entry))) a)) (now (image .exit)) (now (mem .exit)) r ⌝ }
 {
-    let space = numbers::pcid_of(image);
-    match look::look(image, a, space) {
+    let pcid = numbers::pcid_of(image);
+    match look::look(image, a, pcid) {
         Place::At(i, size) => {
             let d = words::read_word(image, 40 + i * 16);
             if numbers::serves(words::read_word(image, 8), kind, d) {
@@ -116,10 +115,10 @@ fn paged(image: &mut [u8], mem: &mut [u8], kind: u64, a: u64) -> Answer
                     read: 0,
                 };
             }
-            drops::drop_matches(image, a, space);
-            missed(image, mem, space, kind, a)
+            drops::drop_matches(image, a, pcid);
+            missed(image, mem, pcid, kind, a)
         }
-        Place::Nowhere => missed(image, mem, space, kind, a),
+        Place::Nowhere => missed(image, mem, pcid, kind, a),
     }
 }
 

@@ -1,4 +1,4 @@
--- The ways through the trial program's functions: a line is counted as it was judged, and the image before a case is what three calls leave.
+-- The ways through the trial program's functions: a line is counted as it was tallied, and the image before a case is what three calls leave.
 use Prim.Native.Nat.{ℕ, _+_, _%_, _^_}
 use mathlib.Core.Path.{_≡_, refl, ap, _∙_}
 use mathlib.Core.Bool.{Bool, true, false}
@@ -10,17 +10,17 @@ use Rattle.rules.specs.Calls.{Outcome, call}
 use Rattle.rules.specs.declared.Answer.{Answer}
 use Rattle.translator.specs.Contract.{Leaves}
 use Rattle.trial.specs.declared.report.Tally.{Tally}
-use Rattle.rules.proofs.TrialGuest.{guest}
-use Rattle.trial.specs.Trial.{ready, judged}
+use Rattle.rules.specs.TrialGuest.{guest}
+use Rattle.trial.specs.Trial.{ready, tallied}
 
-pub passes : (g : Bool) (t : Tally) (n : ℕ) → g ≡ true → n ≡ (t .passed + 1) % 2 ^ 64 → _≡_ {A = Tally} (record { passed = n; failed = t .failed }) (judged g t)
+pub passes : (g : Bool) (t : Tally) (n : ℕ) → g ≡ true → n ≡ (t .passed + 1) % 2 ^ 64 → _≡_ {A = Tally} (record { passed = n; failed = t .failed }) (tallied g t)
 passes g t n e h = rw (e, h)
 
-pub fails : (g : Bool) (t : Tally) (n : ℕ) → g ≡ false → n ≡ (t .failed + 1) % 2 ^ 64 → _≡_ {A = Tally} (record { passed = t .passed; failed = n }) (judged g t)
+pub fails : (g : Bool) (t : Tally) (n : ℕ) → g ≡ false → n ≡ (t .failed + 1) % 2 ^ 64 → _≡_ {A = Tally} (record { passed = t .passed; failed = n }) (tallied g t)
 fails g t n e h = rw (e, h)
 
-pub counted : (g h : Bool) (t r : Tally) → g ≡ h → r ≡ judged g t → r ≡ judged h t
-counted g h t r e q = q ∙ ap (λ (x : Bool). judged x t) e
+pub counted : (g h : Bool) (t r : Tally) → g ≡ h → r ≡ tallied g t → r ≡ tallied h t
+counted g h t r e q = q ∙ ap (λ (x : Bool). tallied x t) e
 
 -- ---- the image before a case
 left : (q : Request) (b b′ : List ℕ) (a : Answer) → Leaves q b b′ a → b′ ≡ call b [] q .image

@@ -40,6 +40,6 @@ abbrev pub areAlike : Told → Told → Bool
 areAlike a b = eqb (a .kind) (b .kind) && eqb (a .value) (b .value) && eqb (a .read) (b .read)
 
 -- one line more
-abbrev pub judged : Bool → Tally → Tally
-judged true t = record { passed = (t .passed + 1) % 2 ^ 64; failed = t .failed }
-judged false t = record { passed = t .passed; failed = (t .failed + 1) % 2 ^ 64 }
+abbrev pub tallied : Bool → Tally → Tally
+tallied true t = record { passed = (t .passed + 1) % 2 ^ 64; failed = t .failed }
+tallied false t = record { passed = t .passed; failed = (t .failed + 1) % 2 ^ 64 }

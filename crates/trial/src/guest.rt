@@ -3,7 +3,7 @@ ghost use mathlib.Core.Path.{_≡_};
 ghost use Prim.Native.Nat.{_+_, _≤_};
 ghost use Rattle.rules.specs.Bits.{wordAt, wordPut};
 ghost use Rattle.rules.specs.Refusals.{translate as translateOf, writeCr3, writeMode};
-ghost use Rattle.rules.proofs.TrialGuest.{guest};
+ghost use Rattle.rules.specs.TrialGuest.{guest};
 ghost use Rattle.trial.specs.Trial.{ready, Came, CameWith};
 use crate::report;
 use crate::report::Told;

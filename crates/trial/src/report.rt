@@ -1,7 +1,7 @@
 // What a call came to, and the lines that are written of it.
 ghost use mathlib.Core.Path.{_≡_};
 ghost use lib.Dec.{eqb};
-ghost use Rattle.trial.specs.Trial.{Tells, areAlike, judged};
+ghost use Rattle.trial.specs.Trial.{Tells, areAlike, tallied};
 use rules::Answer;
 
 // An answer as the paper's record has it, without the page size.
@@ -122,7 +122,7 @@ fn write_told(o: Told) {
 
 // The end of a line; the sums cannot wrap before 2^64 lines are written.
 fn judge(t: Tally, good: bool) -> Tally
-    ensures { λ r. ⌜ r ≡ judged good t ⌝ }
+    ensures { λ r. ⌜ r ≡ tallied good t ⌝ }
 {
     if good {
         write(b": passed\n");
@@ -140,7 +140,7 @@ fn judge(t: Tally, good: bool) -> Tally
 
 // A line on what a call came to.
 pub fn call(t: Tally, name: &[u8], expected: Told, came: Told) -> Tally
-    ensures { λ r. ⌜ r ≡ judged (areAlike expected came) t ⌝ }
+    ensures { λ r. ⌜ r ≡ tallied (areAlike expected came) t ⌝ }
 {
     write(name);
     write(b": expected ");
@@ -152,7 +152,7 @@ pub fn call(t: Tally, name: &[u8], expected: Told, came: Told) -> Tally
 
 // A line on what a word of the guest's holds.
 pub fn word(t: Tally, name: &[u8], expected: u64, came: u64) -> Tally
-    ensures { λ r. ⌜ r ≡ judged (eqb expected came) t ⌝ }
+    ensures { λ r. ⌜ r ≡ tallied (eqb expected came) t ⌝ }
 {
     write(name);
     write(b": expected ");

@@ -19,7 +19,7 @@ use Rattle.rules.specs.declared.Cause.the-variants.{NotPresent, Reserved, Prote
 use Rattle.rules.specs.declared.Found.{Found}
 use Rattle.rules.specs.declared.Found.the-variants.{Page, Fault}
 use Rattle.rules.proofs.BitLaws.{one-le, flag-back, on-one}
-use Rattle.walk.specs.Packed.{Fits, causeCode, packOf, levelIn, unpackOf, packed, rightsOf}
+use Rattle.walk.specs.Packed.{StandsFor, causeCode, packOf, levelIn, unpackOf, packed, rightsOf}
 use Rattle.walk.proofs.Masks.{cut, write-bit}
 
 -- ---- the number at a page
@@ -29,7 +29,7 @@ or-one true false = refl
 or-one false true = refl
 or-one false false = refl
 
-pub pack-page : (c : Control) (k : Access) (bad ask level at e s n : ℕ) → Fits c k bad ask → level ≤ 3 → part 52 (c .width) e ≡ 0
+pub pack-page : (c : Control) (k : Access) (bad ask level at e s n : ℕ) → StandsFor c k bad ask → level ≤ 3 → part 52 (c .width) e ≡ 0
     → packed level (part 52 (shift level) e) e s ask ≡ packOf (pageIf true k (leafOf c level at e (rightsOf s)) n)
 pack-page c k bad ask level at e s n f h z =
     let w : ask % 2 ≡ one (k .write) = rw (f .asks) (write-bit c k) in

@@ -26,7 +26,7 @@ use Rattle.rules.proofs.SizeLaws.{size-at, level-at, reserved-is}
 use Rattle.rules.proofs.WalkLaws.{reach-step, ended, endLevel}
 use Rattle.rules.proofs.MemoryLaws.{added-already, lacks-inside}
 use Rattle.rules.proofs.Grown.{Eight, Grown, grown-marked, eights, next-eight}
-use Rattle.walk.specs.Packed.{rightsOf, andIn, isAllowed, isWrite, slid, packOf, isUnfit, AtLeaf, AtPage, Fits, Did, Down}
+use Rattle.walk.specs.Packed.{rightsOf, andIn, isAllowed, isWrite, slid, packOf, isReservedPage, AtLeaf, AtPage, StandsFor, Did, Down}
 use Rattle.walk.proofs.Masks.{rights-and, clear-test, cut, allow-test, write-test}
 use Rattle.walk.proofs.Packing.{pack-page, found-page, found-fault}
 use Rattle.walk.proofs.Ways.{page-small}
@@ -107,7 +107,7 @@ unused level e h g n =
 abbrev Wide : Control → ℕ → Bool
 Wide c e = anyOn 52 (c .width) e || (not (nxe (c .flags)) && isOn 63 e)
 
-module _ (c : Control) (k : Access) (mask ask level e : ℕ) (f : Fits c k mask ask) where
+module _ (c : Control) (k : Access) (mask ask level e : ℕ) (f : StandsFor c k mask ask) where
   clear-is : eqb (bitAnd e mask) 0 ≡ not (Wide c e)
   clear-is = ap (λ (z : ℕ). eqb (bitAnd e z) 0) (f .bads) ∙ clear-test c e (f .narrow)
 
@@ -123,7 +123,7 @@ module _ (c : Control) (k : Access) (mask ask level e : ℕ) (f : Fits c k mask 
       rw (p, bad-bools (Wide c e) (eqb level 4 && isOn 7 e) (isPage level e && anyOn (sizeAt level .reserved) 13 e) (not-false (Wide c e) (sym clear-is ∙ b)))
 
   says-end : 0 < level → level ≤ 4 → isOn 0 e ≡ true → eqb (bitAnd e mask) 0 ≡ true → Ends level e ≡ true
-      → says c level e ≡ cond (isUnfit level e) bad page
+      → says c level e ≡ cond (isReservedPage level e) bad page
   says-end pos high p b t =
       rw p
       (end-bools (Wide c e) (eqb level 1) (eqb level 4) (leb level 3) (isOn 7 e) (anyOn (sizeAt level .reserved) 13 e) (anyOn (shift level) 13 e)
@@ -186,8 +186,8 @@ module _ (mem : Memory) (x level base seen mask ask at e : ℕ) (pos : 0 < level
       rights-are = ap rightsOf so-far ∙ rights-and seen e
 
       -- the entry ends the walk
-      at-page : (c : Control) (k : Access) → Fits c k mask ask → (mem′ : Memory) (n : ℕ) → AtPage mem mem′ at e level s ask n
-          → (u : Bool) → isUnfit level e ≡ u → (below : Reach) → Did c k (step c level at e rights below (cond u bad page)) mem mem′ n
+      at-page : (c : Control) (k : Access) → StandsFor c k mask ask → (mem′ : Memory) (n : ℕ) → AtPage mem mem′ at e level s ask n
+          → (u : Bool) → isReservedPage level e ≡ u → (below : Reach) → Did c k (step c level at e rights below (cond u bad page)) mem mem′ n
       at-page c k f mem′ n d true q below = record { number = rw q at (d .number); memory = rw q at (d .memory) }
       at-page c k f mem′ n d false q below = go (allows c k rights) refl
         where
@@ -212,8 +212,8 @@ module _ (mem : Memory) (x level base seen mask ask at e : ℕ) (pos : 0 < level
       ends : Ends level e ≡ true → (mem′ : Memory) (n : ℕ) → AtPage mem mem′ at e level s ask n → Down mem mem′ x level base seen mask ask n
       ends t mem′ n d =
           record {
-            did = λ c k a f hx. by c k a hx (cond (isUnfit level e) bad page) (says-end c k mask ask level e f pos high (present e there) (sym test ∙ clear) t) mem′ n
-                (at-page c k f mem′ n d (isUnfit level e) refl (below c a));
+            did = λ c k a f hx. by c k a hx (cond (isReservedPage level e) bad page) (says-end c k mask ask level e f pos high (present e there) (sym test ∙ clear) t) mem′ n
+                (at-page c k f mem′ n d (isReservedPage level e) refl (below c a));
           }
 
       pub way-small : level ≡ 1 → (small : ℕ) → small ≡ part 52 12 e → (mem′ : Memory) (n : ℕ) → AtLeaf mem mem′ at e 1 small s ask n
@@ -232,7 +232,7 @@ module _ (mem : Memory) (x level base seen mask ask at e : ℕ) (pos : 0 < level
             more : 1 ≤ level - 1
             more = omega (arith, not-last)
 
-            onwards : (c : Control) (k : Access) (a : ℕ) → Fits c k mask ask → x ≡ slid level a → Did c k (step c level at e rights (below c a) table) mem mem₂ n
+            onwards : (c : Control) (k : Access) (a : ℕ) → StandsFor c k mask ask → x ≡ slid level a → Did c k (step c level at e rights (below c a) table) mem mem₂ n
             onwards c k a f hx =
                 let to : next-base ≡ next c e = leads ∙ cut (c .width) 12 e (f .narrow) (omega (arith, f .wide)) (narrow c k mask ask level e f (sym test ∙ clear)) in
                 let d : Did c k (below c a) mem mem₁ n =

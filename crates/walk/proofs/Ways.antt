@@ -20,7 +20,7 @@ use Rattle.rules.specs.Walk.{dirtied}
 use Rattle.rules.proofs.BitLaws.{part-lt}
 use Rattle.rules.proofs.MemoryLaws.{entry-inside, entry-outside, added-already, lacks-inside}
 use Rattle.rules.proofs.Grown.{Eight, Grown, grown-none, grown-dirtied}
-use Rattle.walk.specs.Packed.{badOf, askOf, levelIn, unpackOf, isAllowed, isWrite, packed, leafNumber, AtLeaf, isUnfit, AtPage, Tells}
+use Rattle.walk.specs.Packed.{badOf, askOf, levelIn, unpackOf, isAllowed, isWrite, packed, numberAtLeaf, AtLeaf, isReservedPage, AtPage, StillTells}
 
 -- ---- entry
 pub inside : (mem : Memory) (at r : ℕ) → Eight at → length mem % 8 ≡ 0 → at < length mem → r ≡ wordAt mem at → r ≡ entryAt mem at
@@ -30,7 +30,7 @@ pub outside : (mem : Memory) (at : ℕ) → length mem ≤ at → 0xFFFFFFFFFFFF
 outside mem at h = sym (entry-outside at mem (omega arith))
 
 -- ---- mark and dirty
-tells : (k e at : ℕ) (mem mem′ : Memory) → k < 8 → Eight at → length mem % 8 ≡ 0 → e ≡ entryAt mem at → Grown mem mem′ → Tells k e at mem′
+tells : (k e at : ℕ) (mem mem′ : Memory) → k < 8 → Eight at → length mem % 8 ≡ 0 → e ≡ entryAt mem at → Grown mem mem′ → StillTells k e at mem′
 tells k e at mem mem′ h h8 l8 he g =
     let w : length mem′ % 8 ≡ 0 = rw (← g .size) l8 in
     record {
@@ -38,18 +38,18 @@ tells k e at mem mem′ h h8 l8 he g =
       has = λ on. added-already k at mem′ h8 w h (g .stays k at h8 (rw he at on));
     }
 
-pub tells-now : (k e at : ℕ) (mem : Memory) → k < 8 → Eight at → length mem % 8 ≡ 0 → e ≡ entryAt mem at → Tells k e at mem
+pub tells-now : (k e at : ℕ) (mem : Memory) → k < 8 → Eight at → length mem % 8 ≡ 0 → e ≡ entryAt mem at → StillTells k e at mem
 tells-now k e at mem h h8 l8 he = tells k e at mem mem h h8 l8 he (grown-none mem)
 
 pub tells-dirtied : (k e at ask : ℕ) (mem mem′ : Memory) → k < 8 → Eight at → length mem % 8 ≡ 0 → e ≡ entryAt mem at
-    → mem′ ≡ dirtied (isWrite ask) at mem → Tells k e at mem′
+    → mem′ ≡ dirtied (isWrite ask) at mem → StillTells k e at mem′
 tells-dirtied k e at ask mem mem′ h h8 l8 he hm =
     tells k e at mem mem′ h h8 l8 he (subst (Grown mem) (sym hm) (grown-dirtied mem (isWrite ask) at h8))
 
-pub marked-before : (k e at : ℕ) (mem : Memory) (b : Bool) → Tells k e at mem → b ≡ isOn k e → b ≡ true → mem ≡ added k at mem
+pub marked-before : (k e at : ℕ) (mem : Memory) (b : Bool) → StillTells k e at mem → b ≡ isOn k e → b ≡ true → mem ≡ added k at mem
 marked-before k e at mem b t h on = t .has (sym h ∙ on)
 
-pub stands-inside : (k e at : ℕ) (mem : Memory) (b : Bool) → Tells k e at mem → b ≡ isOn k e → b ≡ false → at < length mem
+pub stands-inside : (k e at : ℕ) (mem : Memory) (b : Bool) → StillTells k e at mem → b ≡ isOn k e → b ≡ false → at < length mem
 stands-inside k e at mem b t h off = t .lacks (sym h ∙ off)
 
 pub written : (at ask : ℕ) (mem mem′ : Memory) → mem′ ≡ added 6 at mem → ask % 2 ≡ 1 → mem′ ≡ dirtied (isWrite ask) at mem
@@ -76,18 +76,18 @@ pub page-small : (level base e s ask at n : ℕ) (mem m′ : Memory) → level �
 page-small level base e s ask at n mem m′ h hb d =
     let none : anyOn 12 13 e ≡ false = ap (λ (z : ℕ). not (eqb (z * 2 ^ 13) 0)) (mod-one (e / 2 ^ 13)) in
     record {
-      number = rw (h, none) (d .number ∙ ap (λ (z : ℕ). leafNumber 1 z e s ask) hb);
+      number = rw (h, none) (d .number ∙ ap (λ (z : ℕ). numberAtLeaf 1 z e s ask) hb);
       memory = rw (h, none) (d .memory);
     }
 
-pub page-unfit : (level e s ask at : ℕ) (mem : Memory) (b : Bool) → b ≡ isUnfit level e → b ≡ true
+pub page-unfit : (level e s ask at : ℕ) (mem : Memory) (b : Bool) → b ≡ isReservedPage level e → b ≡ true
     → AtPage mem mem at e level s ask (8 + level)
-page-unfit level e s ask at mem b h t = let y : isUnfit level e ≡ true = sym h ∙ t in record { number = rw y; memory = rw y }
+page-unfit level e s ask at mem b h t = let y : isReservedPage level e ≡ true = sym h ∙ t in record { number = rw y; memory = rw y }
 
-pub page-large : (level base e s ask at n : ℕ) (mem m′ : Memory) (b : Bool) → b ≡ isUnfit level e → b ≡ false → base ≡ part 52 (3 + 9 * level) e
+pub page-large : (level base e s ask at n : ℕ) (mem m′ : Memory) (b : Bool) → b ≡ isReservedPage level e → b ≡ false → base ≡ part 52 (3 + 9 * level) e
     → AtLeaf mem m′ at e level base s ask n → AtPage mem m′ at e level s ask n
 page-large level base e s ask at n mem m′ b h t hb d =
-    let y : isUnfit level e ≡ false = sym h ∙ t in
+    let y : isReservedPage level e ≡ false = sym h ∙ t in
     record { number = rw (y, ← hb) (d .number); memory = rw y (d .memory) }
 
 pub part-low : (level e n : ℕ) → level ≤ 4 → n ≡ part 52 (3 + 9 * level) e → n < 2 ^ 52
@@ -113,9 +113,9 @@ unpack-reserved n h g f = rw (lt-leb 2048 n h, lt-leb 16 n g, le-leb 8 n f)
 pub unpack-absent : (n : ℕ) → n < 2048 → n < 16 → n < 8 → Fault NotPresent (n % 8) (5 - n % 8) ≡ unpackOf n
 unpack-absent n h g f = rw (lt-leb 2048 n h, lt-leb 16 n g, lt-leb 8 n f)
 
--- ---- is_unfit
-pub unfit-test : (level e p : ℕ) → p ≡ part (3 + 9 * level) 13 e → (eqb level 4 || not (eqb p 0)) ≡ isUnfit level e
-unfit-test level e p h = rw h
+-- ---- is_reserved_page
+pub reserved-page-test : (level e p : ℕ) → p ≡ part (3 + 9 * level) 13 e → (eqb level 4 || not (eqb p 0)) ≡ isReservedPage level e
+reserved-page-test level e p h = rw h
 
 -- ---- ask_of: each flag is a bit of its own
 pub asks : (c : Control) (k : Access) (f u w p : ℕ) (b : Bool) → f ≡ one (k .fetch) → u ≡ one (k .user) → b ≡ isOn 1 (c .flags)

@@ -85,32 +85,32 @@ packed level base e s ask =
     base
     + (2048 + e / 256 % 2 * 256 + bitOr (e / 64) ask % 2 * 64 + level * 8 + (s / 4 % 2 * 4 + s / 2 % 2 * 2 + s / 0x8000000000000000 % 2))
 
-abbrev pub leafNumber : ℕ → ℕ → ℕ → ℕ → ℕ → ℕ
-leafNumber level base e s ask = cond (isAllowed s ask) (packed level base e s ask) (16 + level)
+abbrev pub numberAtLeaf : ℕ → ℕ → ℕ → ℕ → ℕ → ℕ
+numberAtLeaf level base e s ask = cond (isAllowed s ask) (packed level base e s ask) (16 + level)
 
-abbrev pub leafMemory : ℕ → ℕ → ℕ → Memory → Memory
-leafMemory at s ask mem = cond (isAllowed s ask) (added 5 at (dirtied (isWrite ask) at mem)) mem
+abbrev pub memoryAtLeaf : ℕ → ℕ → ℕ → Memory → Memory
+memoryAtLeaf at s ask mem = cond (isAllowed s ask) (added 5 at (dirtied (isWrite ask) at mem)) mem
 
 pub record AtLeaf (mem mem′ : Memory) (at e level base s ask n : ℕ) : Type 0 where
-  pub number : n ≡ leafNumber level base e s ask
-  pub memory : mem′ ≡ leafMemory at s ask mem
+  pub number : n ≡ numberAtLeaf level base e s ask
+  pub memory : mem′ ≡ memoryAtLeaf at s ask mem
 
 -- bit 7 is set: at level 4 that is reserved, below it the page's unused bits are
-abbrev pub isUnfit : ℕ → ℕ → Bool
-isUnfit level e = eqb level 4 || anyOn (shift level) 13 e
+abbrev pub isReservedPage : ℕ → ℕ → Bool
+isReservedPage level e = eqb level 4 || anyOn (shift level) 13 e
 
-abbrev pub pageNumber : ℕ → ℕ → ℕ → ℕ → ℕ
-pageNumber level e s ask = cond (isUnfit level e) (8 + level) (leafNumber level (part 52 (shift level) e) e s ask)
+abbrev pub numberAtPage : ℕ → ℕ → ℕ → ℕ → ℕ
+numberAtPage level e s ask = cond (isReservedPage level e) (8 + level) (numberAtLeaf level (part 52 (shift level) e) e s ask)
 
-abbrev pub pageMemory : ℕ → ℕ → ℕ → ℕ → ℕ → Memory → Memory
-pageMemory level at e s ask mem = cond (isUnfit level e) mem (leafMemory at s ask mem)
+abbrev pub memoryAtPage : ℕ → ℕ → ℕ → ℕ → ℕ → Memory → Memory
+memoryAtPage level at e s ask mem = cond (isReservedPage level e) mem (memoryAtLeaf at s ask mem)
 
 pub record AtPage (mem mem′ : Memory) (at e level s ask n : ℕ) : Type 0 where
-  pub number : n ≡ pageNumber level e s ask
-  pub memory : mem′ ≡ pageMemory level at e s ask mem
+  pub number : n ≡ numberAtPage level e s ask
+  pub memory : mem′ ≡ memoryAtPage level at e s ask mem
 
 -- ---- what the code does from a level on, in the rules' terms: for whatever control, access and address the numbers stand for
-pub record Fits (c : Control) (k : Access) (bad ask : ℕ) : Type 0 where
+pub record StandsFor (c : Control) (k : Access) (bad ask : ℕ) : Type 0 where
   pub wide : 36 ≤ c .width
   pub narrow : c .width ≤ 52
   pub bads : bad ≡ badOf c
@@ -121,10 +121,10 @@ pub record Did (c : Control) (k : Access) (w : Reach) (mem mem′ : Memory) (n :
   pub memory : mem′ ≡ marked c k (w .end) (w .path) mem
 
 pub record Down (mem mem′ : Memory) (x level base seen bad ask n : ℕ) : Type 0 where
-  pub did : (c : Control) (k : Access) (a : ℕ) → Fits c k bad ask → x ≡ slid level a
+  pub did : (c : Control) (k : Access) (a : ℕ) → StandsFor c k bad ask → x ≡ slid level a
       → Did c k (reach (entryAt mem) c a level base (rightsOf seen)) mem mem′ n
 
 -- what an entry, read earlier, tells of memory now: where it lacks bit k it stands inside, and where it has it there is nothing to add
-pub record Tells (k e at : ℕ) (mem : Memory) : Type 0 where
+pub record StillTells (k e at : ℕ) (mem : Memory) : Type 0 where
   pub lacks : isOn k e ≡ false → at < length mem
   pub has : isOn k e ≡ true → mem ≡ added k at mem

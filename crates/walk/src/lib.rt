@@ -8,7 +8,7 @@ ghost use lib.ListN.{length};
 ghost use Rattle.rules.specs.Bits.{part};
 ghost use Rattle.rules.specs.Memory.{entryAt, added};
 ghost use Rattle.rules.specs.Walk.{dirtied, walk as walkOf};
-ghost use Rattle.walk.specs.Packed.{Ready, andIn, badOf, askOf, isAllowed, isWrite, packed, AtLeaf, isUnfit, AtPage, levelIn, unpackOf, Down, Tells};
+ghost use Rattle.walk.specs.Packed.{Ready, andIn, badOf, askOf, isAllowed, isWrite, packed, AtLeaf, isReservedPage, AtPage, levelIn, unpackOf, Down, StillTells};
 use rules::Access;
 use rules::Cause;
 use rules::Control;
@@ -32,7 +32,7 @@ fn entry(mem: &[u8], at: usize) -> u64
 
 // Bit k is added to an entry; a store is made only where the entry, as it was read, lacks it.
 fn mark(mem: &mut [u8], at: usize, e: u64, k: u8)
-    requires { ⌜ (k < 8) × Tells k e at (now mem) ⌝ }
+    requires { ⌜ (k < 8) × StillTells k e at (now mem) ⌝ }
     ensures { λ _. ⌜ now (mem .exit) ≡ added k at (now (mem .entry)) ⌝ }
 {
     if words::is_on(k as u64, e) {
@@ -43,7 +43,7 @@ fn mark(mem: &mut [u8], at: usize, e: u64, k: u8)
 
 // A write marks the page's entry as dirty.
 fn dirty(mem: &mut [u8], at: usize, e: u64, ask: u64)
-    requires { ⌜ Tells 6 e at (now mem) ⌝ }
+    requires { ⌜ StillTells 6 e at (now mem) ⌝ }
     ensures { λ _. ⌜ now (mem .exit) ≡ dirtied (isWrite ask) at (now (mem .entry)) ⌝ }
 {
     if ask % 2 == 1 {
@@ -71,9 +71,9 @@ fn is_allowed(s: u64, ask: u64) -> bool
     s & need == need
 }
 
-fn is_unfit(level: u64, e: u64) -> bool
+fn is_reserved_page(level: u64, e: u64) -> bool
     requires { ⌜ (2 ≤ level) × (level ≤ 4) ⌝ }
-    ensures { λ r. ⌜ r ≡ isUnfit level e ⌝ }
+    ensures { λ r. ⌜ r ≡ isReservedPage level e ⌝ }
 {
     let p = words::part(3 + 9 * level, 13, e);
     (level == 4) | !(p == 0)
@@ -116,7 +116,7 @@ fn page(mem: &mut [u8], at: usize, e: u64, level: u64, s: u64, ask: u64) -> u64
     requires { ⌜ (2 ≤ level) × ((level ≤ 4) × ((at % 8 ≡ 0) × ((length (now mem) % 8 ≡ 0) × (e ≡ entryAt (now mem) at)))) ⌝ }
     ensures { λ r. ⌜ AtPage (now (mem .entry)) (now (mem .exit)) at e level s ask r ⌝ }
 {
-    if is_unfit(level, e) {
+    if is_reserved_page(level, e) {
         return 8 + level;
     }
     leaf(mem, at, e, level, words::part(52, 3 + 9 * level, e), s, ask)

@@ -1,4 +1,4 @@
--- The test of `drop_others`, at an address.
+-- The test of `drop_pcid`, at an address.
 use Rattle.drops.proofs.DropWays.{address-dropped}
 use borrow.Author.Needs.{needs}
 use Rattle.drops.proofs.drop_address.Statement.{statement}

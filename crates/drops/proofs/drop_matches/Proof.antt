@@ -1,4 +1,4 @@
--- In use, and everybody's or the address space's, at an address.
+-- Held, and global or the PCID's, at an address.
 use Rattle.drops.proofs.DropWays.{matches-dropped}
 use borrow.Author.Needs.{needs}
 use Rattle.drops.proofs.drop_matches.Statement.{statement}

@@ -1,5 +1,5 @@
 -- The two ways through it: PCIDE on, and off.
-use Rattle.numbers.proofs.Laws.{spaced, spaceless}
+use Rattle.numbers.proofs.Laws.{pcid-on, pcid-off}
 use borrow.Author.Needs.{needs}
 use Rattle.numbers.proofs.pcid_of.Statement.{statement}
 use Rattle.numbers.proofs.pcid_of.Tie as tie
@@ -14,10 +14,10 @@ read-word-requires-2 : tie.Need-read-word-requires-2
 read-word-requires-2 c κs = search needs
 
 returns : tie.Need-returns
-returns c = search spaced
+returns c = search pcid-on
 
 returns-2 : tie.Need-returns-2
-returns-2 c = search spaceless
+returns-2 c = search pcid-off
 
 pub pcid-of-spec : {M : Type 1} → statement M
 pcid-of-spec =

@@ -4,8 +4,8 @@ use borrow.Author.Needs.{needs}
 use Rattle.walk.proofs.page.Statement.{statement}
 use Rattle.walk.proofs.page.Tie as tie
 
-is-unfit-requires : tie.Need-is-unfit-requires
-is-unfit-requires c κs = search needs
+is-reserved-page-requires : tie.Need-is-reserved-page-requires
+is-reserved-page-requires c κs = search needs
 
 add-result : tie.Need-add-result
 add-result c = search needs
@@ -34,4 +34,4 @@ returns-2 c = search page-large
 pub page-spec : {M : Type 1} → statement M
 page-spec =
     tie.close
-    (tie.spec is-unfit-requires add-result returns mul-part add-part part-requires leaf-requires same-length returns-2)
+    (tie.spec is-reserved-page-requires add-result returns mul-part add-part part-requires leaf-requires same-length returns-2)

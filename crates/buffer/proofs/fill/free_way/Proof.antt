@@ -1,4 +1,4 @@
--- The loop's invariant: the ways passed are in use, so that the first free one is among those left. The measure is how many are left.
+-- The loop's invariant: the ways passed are held, so that the first free one is among those left. The measure is how many are left.
 use Prim.Native.Nat.{_-_}
 use borrow.Author.Needs.{needs}
 use Rattle.rules.specs.Image.{decode}

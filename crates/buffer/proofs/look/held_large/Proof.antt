@@ -1,4 +1,4 @@
--- Where no way is in use none holds the page.
+-- Where no way is held none holds the page.
 use Rattle.buffer.proofs.Looking.{none-used}
 use borrow.Author.Needs.{needs}
 use Rattle.buffer.proofs.look.held_large.Statement.{statement}

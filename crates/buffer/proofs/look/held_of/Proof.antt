@@ -19,17 +19,17 @@ mul-at c = search needs
 add-at : tie.Need-add-at
 add-at c = search needs
 
-is-page-requires : tie.Need-is-page-requires
-is-page-requires c κs = search needs
+holds-page-requires : tie.Need-holds-page-requires
+holds-page-requires c κs = search needs
 
 returns : tie.Need-returns
 returns c = search way-0
 
-add-is-page : tie.Need-add-is-page
-add-is-page c = search needs
+add-holds-page : tie.Need-add-holds-page
+add-holds-page c = search needs
 
-is-page-requires-2 : tie.Need-is-page-requires-2
-is-page-requires-2 c κs = search needs
+holds-page-requires-2 : tie.Need-holds-page-requires-2
+holds-page-requires-2 c κs = search needs
 
 add-t11 : tie.Need-add-t11
 add-t11 c = search needs
@@ -37,11 +37,11 @@ add-t11 c = search needs
 returns-2 : tie.Need-returns-2
 returns-2 c = search way-1
 
-add-is-page-2 : tie.Need-add-is-page-2
-add-is-page-2 c = search needs
+add-holds-page-2 : tie.Need-add-holds-page-2
+add-holds-page-2 c = search needs
 
-is-page-requires-3 : tie.Need-is-page-requires-3
-is-page-requires-3 c κs = search needs
+holds-page-requires-3 : tie.Need-holds-page-requires-3
+holds-page-requires-3 c κs = search needs
 
 add-t13 : tie.Need-add-t13
 add-t13 c = search needs
@@ -49,11 +49,11 @@ add-t13 c = search needs
 returns-3 : tie.Need-returns-3
 returns-3 c = search way-2
 
-add-is-page-3 : tie.Need-add-is-page-3
-add-is-page-3 c = search needs
+add-holds-page-3 : tie.Need-add-holds-page-3
+add-holds-page-3 c = search needs
 
-is-page-requires-4 : tie.Need-is-page-requires-4
-is-page-requires-4 c κs = search needs
+holds-page-requires-4 : tie.Need-holds-page-requires-4
+holds-page-requires-4 c κs = search needs
 
 add-t15 : tie.Need-add-t15
 add-t15 c = search needs
@@ -73,18 +73,18 @@ held-of-spec =
     mul-i
     mul-at
     add-at
-    is-page-requires
+    holds-page-requires
     returns
-    add-is-page
-    is-page-requires-2
+    add-holds-page
+    holds-page-requires-2
     add-t11
     returns-2
-    add-is-page-2
-    is-page-requires-3
+    add-holds-page-2
+    holds-page-requires-3
     add-t13
     returns-3
-    add-is-page-3
-    is-page-requires-4
+    add-holds-page-3
+    holds-page-requires-4
     add-t15
     returns-4
     returns-5)

@@ -1,12 +1,12 @@
 -- What is left to look at, from the k-th way on, has the same first match.
-use Rattle.buffer.proofs.Looking.{Left, left-all, way-size, look-found, look-next, look-end}
+use Rattle.buffer.proofs.Looking.{Searched, left-all, way-size, look-found, look-next, look-end}
 use borrow.Author.Needs.{needs}
 use Prim.Native.Nat.{_-_}
 use Rattle.buffer.proofs.look.look_all.Statement.{statement}
 use Rattle.buffer.proofs.look.look_all.Tie as tie
 
 abbrev Inv-loop : tie.InvT-loop
-Inv-loop image a pcid k₀ k = Left image a k
+Inv-loop image a pcid k₀ k = Searched image a k
 
 abbrev μ-loop : tie.MeasureT-loop
 μ-loop image a pcid k₀ k = 12 - k
@@ -32,14 +32,14 @@ mul-i c = search needs
 add-i : tie.Need-add-i Inv-loop μ-loop
 add-i c = search needs
 
-mul-is-page : tie.Need-mul-is-page Inv-loop μ-loop
-mul-is-page c = search needs
+mul-holds-page : tie.Need-mul-holds-page Inv-loop μ-loop
+mul-holds-page c = search needs
 
-add-is-page : tie.Need-add-is-page Inv-loop μ-loop
-add-is-page c = search needs
+add-holds-page : tie.Need-add-holds-page Inv-loop μ-loop
+add-holds-page c = search needs
 
-is-page-requires : tie.Need-is-page-requires Inv-loop μ-loop
-is-page-requires c κs = search needs
+holds-page-requires : tie.Need-holds-page-requires Inv-loop μ-loop
+holds-page-requires c κs = search needs
 
 is-of-requires : tie.Need-is-of-requires Inv-loop μ-loop
 is-of-requires c κs = search needs
@@ -72,9 +72,9 @@ look-all-spec =
     set-of-requires
     mul-i
     add-i
-    mul-is-page
-    add-is-page
-    is-page-requires
+    mul-holds-page
+    add-holds-page
+    holds-page-requires
     is-of-requires
     returns
     add-k

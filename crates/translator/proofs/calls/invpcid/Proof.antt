@@ -2,7 +2,7 @@
 use mathlib.Core.List.{[]}
 use Rattle.rules.specs.Refusals.{invpcid}
 use native.Mathlib.Omega.{arith}
-use Rattle.translator.proofs.Calling.{refuses, call-image, space-lt, invpcid-0, invpcid-1, invpcid-2, invpcid-3}
+use Rattle.translator.proofs.Calling.{refuses, call-image, asked-pcid-lt, invpcid-0, invpcid-1, invpcid-2, invpcid-3}
 use borrow.Author.Needs.{needs}
 use Rattle.translator.proofs.calls.invpcid.Statement.{statement}
 use Rattle.translator.proofs.calls.invpcid.Tie as tie
@@ -20,8 +20,8 @@ drop-address-requires : tie.Need-drop-address-requires
 drop-address-requires c κs =
     let s = c .before .before in
     let k = s .before .before .before in
-    let i = call-image (invpcid (k .before .args .kind) (k .before .args .space) (k .before .args .a)) (k .before .args .image .now) [] (s .before .invpcid-refusal .result) tt (λ j. omega (arith, k .slice-known .given j)) (s .before .invpcid-refusal .ensures) (s .if1 .left) in
-    (i, search space-lt)
+    let i = call-image (invpcid (k .before .args .kind) (k .before .args .pcid) (k .before .args .a)) (k .before .args .image .now) [] (s .before .invpcid-refusal .result) tt (λ j. omega (arith, k .slice-known .given j)) (s .before .invpcid-refusal .ensures) (s .if1 .left) in
+    (i, search asked-pcid-lt)
 
 same-length-2 : tie.Need-same-length-2
 same-length-2 c = search needs
@@ -29,12 +29,12 @@ same-length-2 c = search needs
 returns-2 : tie.Need-returns-2
 returns-2 c = search invpcid-0
 
-drop-others-requires : tie.Need-drop-others-requires
-drop-others-requires c κs =
+drop-pcid-requires : tie.Need-drop-pcid-requires
+drop-pcid-requires c κs =
     let s = c .before .before .before in
     let k = s .before .before .before in
-    let i = call-image (invpcid (k .before .args .kind) (k .before .args .space) (k .before .args .a)) (k .before .args .image .now) [] (s .before .invpcid-refusal .result) tt (λ j. omega (arith, k .slice-known .given j)) (s .before .invpcid-refusal .ensures) (s .if1 .left) in
-    (i, search space-lt)
+    let i = call-image (invpcid (k .before .args .kind) (k .before .args .pcid) (k .before .args .a)) (k .before .args .image .now) [] (s .before .invpcid-refusal .result) tt (λ j. omega (arith, k .slice-known .given j)) (s .before .invpcid-refusal .ensures) (s .if1 .left) in
+    (i, search asked-pcid-lt)
 
 same-length-3 : tie.Need-same-length-3
 same-length-3 c = search needs
@@ -46,7 +46,7 @@ drop-everything-requires : tie.Need-drop-everything-requires
 drop-everything-requires c κs =
     let s = c .before .before .before .before in
     let k = s .before .before .before in
-    let i = call-image (invpcid (k .before .args .kind) (k .before .args .space) (k .before .args .a)) (k .before .args .image .now) [] (s .before .invpcid-refusal .result) tt (λ j. omega (arith, k .slice-known .given j)) (s .before .invpcid-refusal .ensures) (s .if1 .left) in
+    let i = call-image (invpcid (k .before .args .kind) (k .before .args .pcid) (k .before .args .a)) (k .before .args .image .now) [] (s .before .invpcid-refusal .result) tt (λ j. omega (arith, k .slice-known .given j)) (s .before .invpcid-refusal .ensures) (s .if1 .left) in
     i
 
 same-length-4 : tie.Need-same-length-4
@@ -59,7 +59,7 @@ drop-not-global-requires : tie.Need-drop-not-global-requires
 drop-not-global-requires c κs =
     let s = c .before .before .before .before in
     let k = s .before .before .before in
-    let i = call-image (invpcid (k .before .args .kind) (k .before .args .space) (k .before .args .a)) (k .before .args .image .now) [] (s .before .invpcid-refusal .result) tt (λ j. omega (arith, k .slice-known .given j)) (s .before .invpcid-refusal .ensures) (s .if1 .left) in
+    let i = call-image (invpcid (k .before .args .kind) (k .before .args .pcid) (k .before .args .a)) (k .before .args .image .now) [] (s .before .invpcid-refusal .result) tt (λ j. omega (arith, k .slice-known .given j)) (s .before .invpcid-refusal .ensures) (s .if1 .left) in
     i
 
 same-length-5 : tie.Need-same-length-5
@@ -78,7 +78,7 @@ invpcid-spec =
     drop-address-requires
     same-length-2
     returns-2
-    drop-others-requires
+    drop-pcid-requires
     same-length-3
     returns-3
     drop-everything-requires

@@ -39,8 +39,8 @@ pcid-of-requires c κs =
     let i = call-image (writeCr3 (k .before .args .value)) (k .before .args .image .now) [] (s .before .cr3-refusal .result) tt (λ j. omega (arith, k .slice-known .given j)) (s .before .cr3-refusal .ensures) (s .if1 .left) in
     search (cr3-long, i)
 
-drop-others-requires : tie.Need-drop-others-requires
-drop-others-requires c κs =
+drop-pcid-requires : tie.Need-drop-pcid-requires
+drop-pcid-requires c κs =
     let s = c .before .before .before .before .before .before .before .before .before in
     let k = s .before .before .before in
     let i = call-image (writeCr3 (k .before .args .value)) (k .before .args .image .now) [] (s .before .cr3-refusal .result) tt (λ j. omega (arith, k .slice-known .given j)) (s .before .cr3-refusal .ensures) (s .if1 .left) in
@@ -68,6 +68,6 @@ write-cr3-spec =
     same-length-2
     returns-2
     pcid-of-requires
-    drop-others-requires
+    drop-pcid-requires
     same-length-3
     returns-3)

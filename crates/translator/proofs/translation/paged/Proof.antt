@@ -1,5 +1,5 @@
 -- A held page serves (`serves-held`), or is dropped and walked for, or nothing is held.
-use Rattle.translator.proofs.Translating.{slot-fits, datum-fits, datum-in, length-pos, length-low, serves-held, usable-dropped, space-dropped, walks-again, walks-first}
+use Rattle.translator.proofs.Translating.{slot-fits, datum-fits, datum-in, length-pos, length-low, serves-held, usable-dropped, pcid-stays, walks-again, walks-first}
 use borrow.Author.Needs.{needs}
 use Rattle.translator.proofs.translation.paged.Statement.{statement}
 use Rattle.translator.proofs.translation.paged.Tie as tie
@@ -45,7 +45,7 @@ missed-requires c κs =
     let d = c .before .before .before .before in
     let p = d .before .before .before .before .before .before .before .before .before .before .before .before .before in
     let u = p .before .before .before .before .pre .0 in
-    (usable-dropped _ _ _ u (d .drop-matches .ensures), (search needs, (space-dropped _ _ _ _ u (p .pcid-of .ensures) (d .drop-matches .ensures), search needs)))
+    (usable-dropped _ _ _ u (d .drop-matches .ensures), (search needs, (pcid-stays _ _ _ _ u (p .pcid-of .ensures) (d .drop-matches .ensures), search needs)))
 
 enum-told : tie.Need-enum-told
 enum-told c = search needs

@@ -1,4 +1,4 @@
--- It is judged by whether the two are the same.
+-- It is tallied by whether the two are the same.
 use Rattle.trial.proofs.Counting.{counted}
 use borrow.Author.Needs.{needs}
 use Rattle.trial.proofs.report.call.Statement.{statement}
