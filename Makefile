@@ -1,5 +1,5 @@
 # The commands of the README. `make test` is the gate.
-.PHONY: test demo bench tools bench-tools c-tests
+.PHONY: test demo install bench tools bench-tools c-tests
 .NOTPARALLEL:
 .DELETE_ON_ERROR:
 
@@ -20,16 +20,27 @@ endif
 WARN := -Wall -Wextra -Werror -pedantic
 CFLAGS := -std=c11 -O2 $(WARN) -Iinclude
 
+# Where `make install` puts things; DESTDIR goes before all of them.
+PREFIX ?= /usr/local
+libdir := $(PREFIX)/lib
+includedir := $(PREFIX)/include
+VERSION := $(shell sed -n 's/^.define PASTRULOW_VERSION UINT64_C(\([0-9]*\))$$/\1/p' include/pastrulow.h)
+
 # rt ci comes last: the gate reads its last line.
 test: c-tests
 	@rt ci
 
-c-tests: $(HOST)/demo $(HOST)/demo-c++ $(HOST)/trial $(HOST)/lengths $(HOST)/differential
-c-tests: $(HOST)/vectors_bochs $(HOST)/vectors_sequences $(HOST)/vectors_linux
-c-tests: $(HOST)/bochs.txt $(HOST)/sequences.txt $(HOST)/linux-guest.bin $(HOST)/linux-guest.txt
+c-tests: tools $(addprefix $(HOST)/,demo demo-c++ demo-installed demo-later header header-bytes trial lengths differential \
+    vectors_bochs bochs.txt vectors_sequences sequences.txt vectors_linux linux-guest.bin linux-guest.txt)
 	$(RUN) $(HOST)/demo >$(HOST)/demo.out
 	$(RUN) $(HOST)/demo-c++ >$(HOST)/demo-c++.out
 	cmp $(HOST)/demo.out $(HOST)/demo-c++.out
+	$(RUN) $(HOST)/demo-installed >$(HOST)/demo-installed.out
+	cmp $(HOST)/demo.out $(HOST)/demo-installed.out
+	$(RUN) $(HOST)/demo-later >$(HOST)/demo-later.out 2>&1; [ $$? -eq 1 ]
+	echo "pastrulow.h has version $(LATER), the archive version $(VERSION)" | cmp - $(HOST)/demo-later.out
+	$(RUN) $(HOST)/header
+	$(RUN) $(HOST)/header-bytes
 	$(RUN) $(HOST)/trial
 	$(RUN) $(HOST)/lengths
 	$(RUN) $(HOST)/vectors_bochs $(HOST)/bochs.txt
@@ -39,10 +50,17 @@ c-tests: $(HOST)/bochs.txt $(HOST)/sequences.txt $(HOST)/linux-guest.bin $(HOST)
 
 # The example host; then the trial program, which rt proves and runs unless nothing has changed since: the log has what
 # it wrote.
-demo: $(HOST)/demo
+demo: tools $(HOST)/demo
 	@$(RUN) $(HOST)/demo
-	@rt check trial
+	@sh host/prove.sh check trial
 	@cat target/log/trial.stdout
+
+install: $(ARCHIVE)
+	install -d "$(DESTDIR)$(includedir)" "$(DESTDIR)$(libdir)/pkgconfig"
+	install -m 644 include/pastrulow.h "$(DESTDIR)$(includedir)"
+	install -m 644 $(ARCHIVE) "$(DESTDIR)$(libdir)"
+	sed -e 's|@PREFIX@|$(PREFIX)|' -e 's|@LIBDIR@|$(libdir)|' -e 's|@INCLUDEDIR@|$(includedir)|' \
+	    -e 's|@VERSION@|$(VERSION)|' host/pastrulow.pc.in >"$(DESTDIR)$(libdir)/pkgconfig/pastrulow.pc"
 
 bench: bench-tools $(HOST)/bench-archive $(HOST)/bench-baseline $(HOST)/differential-baseline $(HOST)/libcount.so
 	@$(RUN) $(HOST)/differential-baseline 1 0 800
@@ -54,8 +72,8 @@ tools:
 bench-tools:
 	@sh host/tools.sh bench
 
-$(ARCHIVE): crates.txt $(shell find crates -name '*.rt' -o -name '*.antt') | tools
-	@rt staticlib pastrulow
+$(ARCHIVE): crates.txt $(shell find crates -name '*.rt' -o -name '*.antt')
+	@sh host/prove.sh staticlib pastrulow
 
 $(HOST):
 	@mkdir -p $(HOST)
@@ -68,17 +86,39 @@ HEADERS := $(wildcard include/*.h $(TEST)/*.h)
 $(HOST)/demo: host/demo.c $(HEADERS) $(ARCHIVE) | $(HOST)
 	$(C) $(CFLAGS) -static -o $@ host/demo.c $(ARCHIVE)
 
-$(HOST)/demo-c++.o: host/demo.c $(HEADERS) | $(HOST) tools
+$(HOST)/demo-c++.o: host/demo.c $(HEADERS) | $(HOST)
 	$(CXX) -x c++ -std=c++17 -O2 $(WARN) -Iinclude -c -o $@ host/demo.c
 
 $(HOST)/demo-c++: $(HOST)/demo-c++.o $(ARCHIVE)
 	$(C) -static -o $@ $^
 
+# From what an install puts where C projects look, found by pkg-config alone.
+INSTALLED := $(abspath $(HOST)/installed)
+$(HOST)/demo-installed: Makefile host/demo.c host/pastrulow.pc.in $(HEADERS) $(ARCHIVE) | $(HOST)
+	$(MAKE) --no-print-directory install DESTDIR=$(INSTALLED) PREFIX=/usr/local
+	flags=$$(PKG_CONFIG_PATH=$(INSTALLED)/usr/local/lib/pkgconfig PKG_CONFIG_SYSROOT_DIR=$(INSTALLED) \
+	    pkg-config --cflags --libs pastrulow) && \
+	    $(C) -std=c11 -O2 $(WARN) -static -o $@ host/demo.c $$flags
+
+# With a header of another version than the archive's.
+LATER := $(VERSION)0
+$(HOST)/later/pastrulow.h: include/pastrulow.h | $(HOST)
+	mkdir -p $(@D)
+	sed 's/^\(.define PASTRULOW_VERSION UINT64_C\)($(VERSION))$$/\1($(LATER))/' $< >$@
+
+$(HOST)/demo-later: host/demo.c $(HOST)/later/pastrulow.h $(ARCHIVE)
+	$(C) -I$(HOST)/later $(CFLAGS) -static -o $@ host/demo.c $(ARCHIVE)
+
+# The second reads words as a host does that is not known to be little-endian.
+$(HOST)/header-bytes: CFLAGS += -DPASTRULOW_LITTLE_ENDIAN=0
+$(HOST)/header $(HOST)/header-bytes: $(TEST)/header.c $(TEST)/check.c $(TEST)/machine.c $(HEADERS) $(ARCHIVE) | $(HOST)
+	$(C) $(CFLAGS) -static -o $@ $(TEST)/header.c $(TEST)/check.c $(TEST)/machine.c $(ARCHIVE)
+
 $(HOST)/trial: $(TEST)/trial.c $(TEST)/machine.c $(HEADERS) $(ARCHIVE) | $(HOST)
 	$(C) $(CFLAGS) -static -o $@ $(TEST)/trial.c $(TEST)/machine.c $(ARCHIVE)
 
-$(HOST)/lengths: $(TEST)/lengths.c $(HEADERS) $(ARCHIVE) | $(HOST)
-	$(C) $(CFLAGS) -static -o $@ $(TEST)/lengths.c $(ARCHIVE)
+$(HOST)/lengths: $(TEST)/lengths.c $(TEST)/check.c $(HEADERS) $(ARCHIVE) | $(HOST)
+	$(C) $(CFLAGS) -static -o $@ $(TEST)/lengths.c $(TEST)/check.c $(ARCHIVE)
 
 $(HOST)/vectors_%: $(TEST)/vectors_%.c $(TEST)/machine.c $(TEST)/vectors.c $(HEADERS) $(ARCHIVE) | $(HOST)
 	$(C) $(CFLAGS) -static -o $@ $(TEST)/vectors_$*.c $(TEST)/machine.c $(TEST)/vectors.c $(ARCHIVE)
@@ -86,15 +126,15 @@ $(HOST)/vectors_%: $(TEST)/vectors_%.c $(TEST)/machine.c $(TEST)/vectors.c $(HEA
 $(HOST)/differential: $(DIFFERENTIAL) $(HEADERS) $(ARCHIVE) | $(HOST)
 	$(C) $(CFLAGS) -static -o $@ $(DIFFERENTIAL) $(ARCHIVE)
 
-$(HOST)/%.txt: host/vectors/%.txt.xz | $(HOST) tools
+$(HOST)/%.txt: host/vectors/%.txt.xz | $(HOST)
 	xz -dc $< >$@
 
-$(HOST)/%.bin: host/vectors/%.bin.xz | $(HOST) tools
+$(HOST)/%.bin: host/vectors/%.bin.xz | $(HOST)
 	xz -dc $< >$@
 
 # Plain C of the same interface. Its chains of ors are shortest as they are written, and memset is the C library's, as the
 # archive's is.
-$(HOST)/baseline.o: bench/baseline.c bench/baseline_parts.h include/pastrulow.h | $(HOST) tools
+$(HOST)/baseline.o: bench/baseline.c bench/baseline_parts.h include/pastrulow.h | $(HOST)
 	$(C) -std=c11 -O3 -fno-tree-reassoc -fno-pie -mstringop-strategy=libcall $(WARN) -Iinclude -c -o $@ bench/baseline.c
 
 $(HOST)/differential-baseline: $(DIFFERENTIAL) $(HEADERS) $(HOST)/baseline.o

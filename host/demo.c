@@ -1,5 +1,5 @@
 /*
- * An example host: the trial guest of document 01, a few accesses, an INVLPG and a CR3 switch.
+ * An example host: the trial guest of document 01, a few accesses, an INVLPG, a CR3 switch and a saved state with PCIDs.
  * It may be copied; it compiles as C11 and as C++17. Link it with libpastrulow.a.
  */
 #include <inttypes.h>
@@ -7,6 +7,9 @@
 #include <stdlib.h>
 
 #include "pastrulow.h"
+
+/* The trial guest's flags. */
+#define FLAGS (PASTRULOW_PG | PASTRULOW_WP | PASTRULOW_PGE | PASTRULOW_NXE)
 
 /* All that a host keeps for one processor. */
 static uint8_t image[PASTRULOW_IMAGE_BYTES];
@@ -43,6 +46,30 @@ static void must(uint64_t refusal, const char *what)
     exit(1);
 }
 
+static void write_cr3(uint64_t value)
+{
+    must(pastrulow_write_cr3(image, sizeof image, value, record, sizeof record), "CR3 write");
+}
+
+/* Calls of another version may take other parameters, or mean something else. */
+static void check_version(void)
+{
+    if (pastrulow_version() == PASTRULOW_VERSION)
+        return;
+    fprintf(stderr, "pastrulow.h has version %" PRIu64 ", the archive version %" PRIu64 "\n", PASTRULOW_VERSION,
+            pastrulow_version());
+    exit(1);
+}
+
+/* A fresh image in a given state, such as a saved one. PCIDE cannot be turned on while CR3 has a PCID, so that comes last. */
+static void load_state(uint64_t width, uint64_t flags, uint64_t cr3)
+{
+    must(pastrulow_start(image, sizeof image, width, record, sizeof record), "start");
+    write_cr3(cr3 & ~PASTRULOW_CR3_PCID);
+    must(pastrulow_write_mode(image, sizeof image, flags, record, sizeof record), "mode write");
+    write_cr3(cr3);
+}
+
 static const char *cause(uint64_t code)
 {
     if (!(code & PASTRULOW_CODE_PRESENT))
@@ -66,16 +93,8 @@ static void access_memory(uint64_t kind, uint64_t address)
            answer.read);
 }
 
-int main(void)
+static void show_accesses(void)
 {
-    write_tables();
-    must(pastrulow_start(image, sizeof image, 40, record, sizeof record), "start");
-    must(pastrulow_write_cr3(image, sizeof image, 0x1000, record, sizeof record), "CR3 write");
-    must(pastrulow_write_mode(image, sizeof image, PASTRULOW_PG | PASTRULOW_WP | PASTRULOW_PGE | PASTRULOW_NXE, record,
-                              sizeof record),
-         "mode write");
-
-    printf("%-18s  %-10s  %-24s  %10s  %s\n", "address", "kind", "result", "page size", "entries read");
     access_memory(PASTRULOW_READ, 0x123);
     access_memory(PASTRULOW_READ, 0x456);   /* the same page: from the buffer */
     access_memory(PASTRULOW_WRITE, 0x123);  /* held, but clean: walked again to set the dirty bit */
@@ -89,18 +108,49 @@ int main(void)
     access_memory(PASTRULOW_USER_READ, 0x3000);
     access_memory(PASTRULOW_READ, 0x4000);
     access_memory(PASTRULOW_READ, UINT64_C(0x800000000000));
+}
 
+static void show_invlpg(void)
+{
     printf("page 0 is unmapped, and INVLPG says so\n");
     store(0x4000, 0);
     must(pastrulow_invlpg(image, sizeof image, 0x123, record, sizeof record), "INVLPG");
     access_memory(PASTRULOW_READ, 0x123);
     access_memory(PASTRULOW_READ, 0x212345);
+}
 
+static void show_cr3_switch(void)
+{
     printf("CR3 is switched to a root under which all is read-only: what is not global is dropped\n");
     store(0x0, 0x2005);
-    must(pastrulow_write_cr3(image, sizeof image, 0, record, sizeof record), "CR3 write");
+    write_cr3(0);
     access_memory(PASTRULOW_READ, 0x212345);
     access_memory(PASTRULOW_WRITE, 0x212345);
     access_memory(PASTRULOW_READ, 0x5000); /* global: still held */
+}
+
+static void show_saved_state(void)
+{
+    printf("a saved state with PCIDE on and PCID 5 is loaded: its buffer is empty\n");
+    load_state(40, FLAGS | PASTRULOW_PCIDE, 0x1005);
+    access_memory(PASTRULOW_READ, 0x212345);
+    access_memory(PASTRULOW_READ, 0x212345);
+    printf("CR3 is switched to PCID 6 and back, and nothing is dropped\n");
+    write_cr3(0x1006 | PASTRULOW_CR3_KEEP);
+    access_memory(PASTRULOW_READ, 0x212345); /* held for PCID 5 only */
+    write_cr3(0x1005 | PASTRULOW_CR3_KEEP);
+    access_memory(PASTRULOW_READ, 0x212345);
+}
+
+int main(void)
+{
+    check_version();
+    write_tables();
+    load_state(40, FLAGS, 0x1000);
+    printf("%-18s  %-10s  %-24s  %10s  %s\n", "address", "kind", "result", "page size", "entries read");
+    show_accesses();
+    show_invlpg();
+    show_cr3_switch();
+    show_saved_state();
     return 0;
 }

@@ -9,6 +9,7 @@ need() { # a command or file that must be there, and the Debian package that has
 }
 
 need xz xz-utils
+need pkg-config pkg-config
 if [ "$(uname -m)" = x86_64 ]; then
     need g++ g++
     [ "${1:-}" != bench ] || need qemu-x86_64 qemu-user # counting is done under it everywhere

@@ -8,7 +8,10 @@
  *   - each pointer is good for as many bytes as the length beside it says, to read and to write; a pointer may be NULL if its
  *     length is 0; no alignment is asked for;
  *   - the slices of one call (image, memory, answer) do not overlap;
- *   - an image, and the guest memory lent with it, are used by one thread at a time; different images need no care;
+ *   - an image and an answer are each lent to one call at a time, and guest memory to one translate at a time, which reads
+ *     table entries there and sets their accessed and dirty bits by plain loads and stores. Where several processors share
+ *     guest memory, each with its own image, the host needs a lock of its own around translate, and around other writes to
+ *     tables; images that share no guest memory need no care;
  *   - lengths are in bytes. A wrong length is no error of the host's: the call refuses it.
  *
  * Between calls the image is best left alone. An image made or changed by hand is safe to lend, and each call follows the same
@@ -19,10 +22,19 @@
 
 #include <stddef.h>
 #include <stdint.h>
+#include <string.h>
 
 #ifdef __cplusplus
 extern "C" {
 #endif
+
+/*
+ * The version of the calls, raised whenever the parameters or the meaning of an exported call change. The archive has the same
+ * number, and a host should compare the two at its start. This does not help a host that does not ask; and nothing checks the
+ * declarations below against the archive.
+ */
+#define PASTRULOW_VERSION UINT64_C(1)
+uint64_t pastrulow_version(void);
 
 /* Lengths in bytes. Guest memory is lent in whole pages, from physical address 0 up. */
 #define PASTRULOW_IMAGE_BYTES 2048
@@ -37,10 +49,11 @@ extern "C" {
 #define PASTRULOW_PG UINT64_C(1)     /* paging */
 #define PASTRULOW_WP UINT64_C(2)     /* read-only pages bind a supervisor's writes too */
 #define PASTRULOW_PGE UINT64_C(4)    /* global pages */
-#define PASTRULOW_PCIDE UINT64_C(8)  /* the low 12 bits of CR3 name an address space */
+#define PASTRULOW_PCIDE UINT64_C(8)  /* the low 12 bits of CR3 are the PCID */
 #define PASTRULOW_NXE UINT64_C(16)   /* bit 63 of an entry bars fetches; reserved while this is off */
 
-/* Bit 63 of a value for CR3: drop nothing. It is not stored. */
+/* Parts of a value for CR3: the PCID, while PCIDE is on; and bit 63, to drop nothing, which is not stored. */
+#define PASTRULOW_CR3_PCID UINT64_C(0xFFF)
 #define PASTRULOW_CR3_KEEP (UINT64_C(1) << 63)
 
 /* Access kinds. */
@@ -108,20 +121,41 @@ uint64_t pastrulow_write_cr3(uint8_t *image, size_t image_len, uint64_t value, u
 /* Sets all five flags; drops everything if PG, PGE, PCIDE or NXE changes. */
 uint64_t pastrulow_write_mode(uint8_t *image, size_t image_len, uint64_t flags, uint8_t *answer, size_t answer_len);
 
+/*
+ * A saved state, which is a width, flags, and CR3 without bit 63, is loaded by four calls, always in this order: start with the
+ * width; the CR3 write with PCID 0, so that the root is there when paging is turned on, and PCIDE can be (refusal 7); the mode
+ * write with the flags; the CR3 write again, with the whole value. None is refused if calls have led to that state before. The
+ * buffer is then empty.
+ */
+
 /* The record, read. */
 struct pastrulow_answer {
     uint64_t kind;  /* address, fault, refused or done */
     uint64_t value; /* as the kind says */
     uint64_t size;  /* length of the page in bytes; 0 unless an address was given with paging on */
-    uint64_t read;  /* table entries read: 0 if the buffer answered */
+    uint64_t read;  /* table entries read: 0 if there was no walk, else one a level from 4 down, so that the walk stopped at
+                       level 5 - read. A fault has always read at least one */
 };
+
+/* Whether the host is known to be little-endian. It may be defined beforehand: 0 is right, and slower, on every host. */
+#ifndef PASTRULOW_LITTLE_ENDIAN
+#if defined(_WIN32) || (defined(__BYTE_ORDER__) && __BYTE_ORDER__ == __ORDER_LITTLE_ENDIAN__)
+#define PASTRULOW_LITTLE_ENDIAN 1
+#else
+#define PASTRULOW_LITTLE_ENDIAN 0
+#endif
+#endif
 
 /* One little-endian word of 64 bits, on a host of either byte order. */
 static inline uint64_t pastrulow_word(const uint8_t *bytes)
 {
     uint64_t word = 0;
+#if PASTRULOW_LITTLE_ENDIAN
+    memcpy(&word, bytes, sizeof word);
+#else
     for (int i = 7; i >= 0; i--)
         word = word << 8 | bytes[i];
+#endif
     return word;
 }
 

@@ -1,21 +1,8 @@
 /* Slices of no bytes, lent as NULL. */
-#include <inttypes.h>
-#include <stdio.h>
-#include <string.h>
-
+#include "check.h"
 #include "pastrulow.h"
 
 static uint8_t image[PASTRULOW_IMAGE_BYTES], answer[PASTRULOW_ANSWER_BYTES];
-static unsigned checks, failed;
-
-static void check(const char *what, uint64_t got, uint64_t expected)
-{
-    checks++;
-    if (got == expected)
-        return;
-    failed++;
-    printf("%s: expected %" PRIu64 ", came %" PRIu64 "\n", what, expected, got);
-}
 
 static void no_answer(void)
 {
@@ -55,6 +42,5 @@ int main(void)
     no_answer();
     no_image();
     no_memory();
-    printf("lengths: %u checks, %u failed\n", checks, failed);
-    return failed != 0;
+    return checked("lengths");
 }

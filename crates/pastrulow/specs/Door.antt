@@ -16,6 +16,10 @@ pub record Passes (q : Request) (r r′ b b′ : List ℕ) (n : ℕ) : Type 0 wh
 pub record PassesMemory (q : Request) (r r′ b b′ : List ℕ) (mem mem′ : Memory) (n : ℕ) : Type 0 where
   pub left : _≡_ {A = Left} (record { number = n; answer = r′; image = b′; memory = mem′ }) (door r b mem q)
 
+-- the version of the calls, raised whenever the parameters or the meaning of one change
+abbrev pub version : ℕ
+version = 1
+
 -- ---- its parts
 -- the answer bytes are these four words
 pub record Holds (w : Words) (r′ : List ℕ) : Type 0 where

@@ -3,7 +3,7 @@
 ghost use mathlib.Core.Path.{_≡_};
 ghost use lib.ListN.{length};
 ghost use Rattle.rules.specs.Refusals.{start, translate, invlpg, invpcid, writeCr3, writeMode};
-ghost use Rattle.pastrulow.specs.Door.{Passes, PassesMemory, Holds, Recorded};
+ghost use Rattle.pastrulow.specs.Door.{Passes, PassesMemory, Holds, Recorded, version};
 use rules::Answer;
 use translator::calls;
 use translator::translation;
@@ -12,6 +12,9 @@ use translator::translation;
 const RECORD_LENGTH: usize = 32;
 
 const NO_RECORD: u64 = 1;
+
+// The header has the same number, for a host to compare.
+const VERSION: u64 = 1;
 
 // The record's four words.
 fn put(answer: &mut [u8], kind: u64, value: u64, size: u64, read: u64)
@@ -128,4 +131,11 @@ pub extern "C" fn pastrulow_write_mode(image: &mut [u8], flags: u64, answer: &mu
         return NO_RECORD;
     }
     write_record(answer, calls::write_mode(image, flags))
+}
+
+#[no_mangle]
+pub extern "C" fn pastrulow_version() -> u64
+    ensures { λ r. ⌜ r ≡ version ⌝ }
+{
+    VERSION
 }
