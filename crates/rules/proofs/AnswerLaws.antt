@@ -2,7 +2,7 @@
 -- a page's length, the entries read, a fault's code and a refusal's number are small. So the four words are read back out of the 32 bytes that a call
 -- through the door writes. And a fault's code tells its cause.
 use Prim.Native.Nat.{ℕ, zero, suc, _+_, _%_, _^_, _≤_, _<_}
-use mathlib.Core.Path.{_≡_, refl, ap, sym, _∙_, subst}
+use mathlib.Core.Path.{_≡_, refl, ap, _∙_, subst}
 use mathlib.Core.Bool.{false}
 use mathlib.Core.List.{List, [], _∷_}
 use native.Mathlib.Omega.{arith}
@@ -10,7 +10,7 @@ use lib.ListN.{length}
 use borrow.Author.Tests.{leb-false}
 use Rattle.rules.specs.Bits.{AreWords, wordsOf}
 use Rattle.rules.specs.Sizes.{Is, is-small, is-middle, is-large, sizeAt, sizeOf}
-use Rattle.rules.specs.Image.{Image, decode, control, pg}
+use Rattle.rules.specs.Image.{Image, decode, control}
 use Rattle.rules.specs.Memory.{Memory, entryAt}
 use Rattle.rules.specs.Entries.{everything}
 use Rattle.rules.specs.Walk.{Leaf, reached, reachIn, top, judged}

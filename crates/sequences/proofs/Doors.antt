@@ -6,12 +6,11 @@ use mathlib.Core.Bool.{Bool, true, false, cond}
 use mathlib.Core.List.{List, []}
 use lib.ListN.{length}
 use lib.Dec.{eqb}
-use Rattle.rules.specs.Memory.{Memory}
-use Rattle.rules.specs.Refusals.{Request, start}
-use Rattle.rules.specs.Calls.{Left, written, call, door}
+use Rattle.rules.specs.Refusals.{start}
+use Rattle.rules.specs.Calls.{Left, written, call}
 use Rattle.rules.proofs.CallLaws.{door-written, door-refused}
-use Rattle.sequences.specs.History.{History, _then_with_, bytes}
-use Rattle.sequences.specs.Doors.{Doors, opened, _then_with_into_, doorBytes, historyOf, IsStep, Through}
+use Rattle.sequences.specs.History.{_then_with_, bytes}
+use Rattle.sequences.specs.Doors.{Doors, opened, _then_with_into_, doorBytes, historyOf, Through}
 
 same-bytes : (d : Doors) → doorBytes d ≡ bytes (historyOf d)
 unfolding bytes

@@ -4,21 +4,23 @@
 -- words are read.
 use Prim.Native.Nat.{ℕ, _+_, _^_}
 use mathlib.Core.Path.{_≡_, refl}
-use mathlib.Core.Bool.{false}
+use mathlib.Core.Bool.{true, false}
 use mathlib.Core.List.{[], _∷_, _++_}
 use native.Mathlib.Omega.{arith}
 use lib.ListN.{replicate}
-use Rattle.rules.specs.Image.{encode, decode}
+use Rattle.rules.specs.Image.{Image, tagOf, started, encode, decode}
 use Rattle.rules.specs.Memory.{Memory}
+use Rattle.rules.specs.Buffer.{stored}
 use Rattle.rules.specs.Refusals.{translate, invlpg, invpcid, writeCr3, writeMode}
 use Rattle.rules.specs.Calls.{call}
 use Rattle.rules.specs.TrialGuest.{pageOf}
 use Rattle.rules.specs.declared.Answer.{Answer}
 use Rattle.rules.specs.declared.Answer.the-variants.{Address}
 use Rattle.sequences.specs.History.{History, begun, _then_with_, bytes, image}
-use Rattle.sequences.specs.Covers.{global, others, covered}
+use Rattle.sequences.specs.Covers.{global, others, names, covered}
 use Rattle.sequences.specs.Spans.{OnlyTranslator, RootA, RootB}
 use Rattle.sequences.specs.Claims.{plain}
+use Rattle.sequences.specs.Drops.{heldIn}
 
 -- word 0 of each table is the table itself; of the first, words 1, 2 and 3 are given
 abbrev guest : ℕ → ℕ → ℕ → Memory
@@ -116,6 +118,16 @@ pub not-covered : (covered global 0x2000 (readGlobal ready) [] (writeCr3 0x0000)
     × (covered (others 0) 0x601000 nearby [] (invlpg 0x605000) ≡ false)
 unfolding bytes encode decode
 not-covered = (refl, refl, refl)
+
+-- ---- why the claims on drops ask for a slot that an address names: page 1, by hand in set 0, which is not its own, stays through INVLPG of its address,
+-- though the list names what it holds
+abbrev misplaced : Image
+misplaced = stored 0 (record { tag = tagOf false 0 1; datum = 0 }) (started 40)
+
+pub not-placed : (names misplaced (invlpg 0x1000) (heldIn 0 (misplaced .slots 0 .tag)) ≡ true)
+    × (decode (call (encode misplaced) [] (invlpg 0x1000) .image) .slots 0 ≡ misplaced .slots 0)
+unfolding encode decode
+not-placed = (refl, refl)
 
 -- ---- the root condition: the write that is answered stands under (a), since the last operation that covers everything is the mode write; the PCID that is
 -- back stands under (b)
