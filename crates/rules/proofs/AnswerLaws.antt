@@ -62,10 +62,10 @@ hit-lt z d a is-small = omega arith
 hit-lt z d a is-middle = omega arith
 hit-lt z d a is-large = omega arith
 
-page-lt : (z : Size) (base a : ℕ) → Is z → base < 2 ^ 52 → base + a % z .length < 2 ^ 64
-page-lt z base a is-small h = omega arith
-page-lt z base a is-middle h = omega arith
-page-lt z base a is-large h = omega arith
+address-lt : (z : Size) (base a : ℕ) → Is z → base < 2 ^ 52 → base + a % z .length < 2 ^ 64
+address-lt z base a is-small h = omega arith
+address-lt z base a is-middle h = omega arith
+address-lt z base a is-large h = omega arith
 
 length-lt : (z : Size) → Is z → z .length < 2 ^ 64
 length-lt z q = omega (arith, length-in z q)
@@ -84,7 +84,7 @@ module _ (s : Image) (mem : Memory) (k : Access) (a : ℕ) (narrow : s .width �
       page p e =
           let l : IsLeaf (entryAt mem) (control s) p = is-leaf mem (control s) a p e in
           let z : Is (sizeAt (p .level)) = size-at (p .level) (l .low) (l .high) in
-          four 0 _ _ _ (omega arith) (page-lt (sizeAt (p .level)) (p .base) a z (leaf-lt (entryAt mem) (control s) p l narrow))
+          four 0 _ _ _ (omega arith) (address-lt (sizeAt (p .level)) (p .base) a z (leaf-lt (entryAt mem) (control s) p l narrow))
           (length-lt (sizeAt (p .level)) z) read-lt
 
   way-fits : noAddress s a ≡ false → {o : After} → Way s mem k a o → AreFit (o .answer)

@@ -10,13 +10,12 @@ use native.Mathlib.Omega.{arith}
 use native.Mathlib.Nat.{le-of-suc-le-suc, not-suc-le-zero, add-mul-mod-self-left}
 use native.Mathlib.Decide.{decLt}
 use lib.ListN.{length, getD, take, drop, set, length-set}
-use lib.Seq.{drop-nil, set-getD, set-out, take-set-le, drop-set-lt, drop-set-add, getD-drop}
+use lib.Seq.{drop-nil, set-getD, set-out, take-set-le, drop-set-lt, drop-set-add}
 use lib.Pow.{pow-pos, ones-split, ones-lt, high}
 use lib.Dec.{leb, eqb}
 use borrow.Author.Tests.{leb-true, le-leb, lt-leb, eq-eqb}
 use Rattle.rules.specs.Bits.{bit, isOn, withBit, word, AreBytes}
 use Rattle.rules.specs.Memory.{Memory, allOnes, entryAt, added}
-use Rattle.rules.proofs.WordLaws.{word-lt}
 use Rattle.rules.proofs.BitLaws.{bit-low, on-stays, set-twice, set-order, set-lt}
 
 -- ---- memory after a bit was added
@@ -57,12 +56,6 @@ ones-on k h =
     let q : suc (63 - k) + k ≡ 64 = omega arith in
     let e : allOnes / 2 ^ k ≡ 2 ^ suc (63 - k) - 1 = ap (λ (z : ℕ). z / 2 ^ k) (rw q at (ones-split (suc (63 - k)) k)) ∙ high _ k (ones-lt k) in
     eq-eqb (bit k allOnes) 1 (rw e (omega (arith, pow-pos (63 - k))))
-
-pub entry-lt : (a : ℕ) (mem : Memory) → AreBytes mem → entryAt mem a < 2 ^ 64
-entry-lt a mem b = elim (leb (a + 8) (length mem)) as (λ (t : Bool). cond t (word (take 8 (drop a mem))) allOnes < 2 ^ 64) [
-  | true ↦ word-lt 8 (drop a mem) (λ (i : ℕ). rw getD-drop (b (a + i)))
-  | false ↦ omega arith
-]
 
 -- ---- an entry after a bit was added to its lowest byte
 low-byte : (k x r : ℕ) → k < 8 → withBit k (x + 256 * r) ≡ withBit k x + 256 * r

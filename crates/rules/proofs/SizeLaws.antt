@@ -64,12 +64,6 @@ page-lt z a is-small = omega arith
 page-lt z a is-middle = omega arith
 page-lt z a is-large = omega arith
 
--- two addresses of one small page lie in one page of every size
-pub larger : (z : Size) (a b : ℕ) → Is z → pageNumber small a ≡ pageNumber small b → pageNumber z a ≡ pageNumber z b
-larger z a b is-small h = h
-larger z a b is-middle h = omega arith
-larger z a b is-large h = omega arith
-
 -- ---- an address's own slots
 pub slot-size : (z : Size) (a i : ℕ) → Is z → i / 4 ≡ setOf z a → sizeOf i ≡ z
 slot-size z a i is-small h = rw (lt-ltb (i / 4) 16 (omega arith))

@@ -18,7 +18,7 @@ isOn k x = eqb (bit k x) 1
 abbrev pub field : ℕ → ℕ → ℕ → ℕ
 field h l x = x / 2 ^ l % 2 ^ (h - l)
 
--- bits h - 1 down to l of x, where they stand, and no ofPcid
+-- bits h - 1 down to l of x, where they stand, and no others
 abbrev pub part : ℕ → ℕ → ℕ → ℕ
 part h l x = field h l x * 2 ^ l
 

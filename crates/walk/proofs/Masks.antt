@@ -11,7 +11,7 @@ use lib.Bits.{bitAnd, bitXor, and-shr, and-mod, and-high, and-zero-r, xor-shr, x
 use borrow.Author.Tests.{ne-eqb}
 use Rattle.rules.specs.Bits.{isOn, part, anyOn, one}
 use Rattle.rules.specs.Image.{wp, nxe}
-use Rattle.rules.specs.Entries.{everything, also, allows}
+use Rattle.rules.specs.Entries.{also, allows}
 use Rattle.rules.specs.declared.Control.{Control}
 use Rattle.rules.specs.declared.Access.{Access}
 use Rattle.rules.proofs.BoolLaws.{same}
@@ -36,9 +36,6 @@ left-so k e h = ap (λ (p : ℕ). eqb p 1) (bit-low k 63 _ e h (xor-mod e 0x8000
 
 pub rights-and : (s e : ℕ) → rightsOf (andIn s e) ≡ also (rightsOf s) e
 rights-and s e = rw (and-on 1 s _, and-on 2 s _, and-on 63 s _, left-so 1 e (omega arith), left-so 2 e (omega arith), turned e)
-
-pub rights-all : rightsOf 0xFFFFFFFFFFFFFFFF ≡ everything
-rights-all = refl
 
 -- ---- reserved bits
 zero-test : (b : Bool) (p : ℕ) → eqb (one b * 2 ^ 63 + p) 0 ≡ not (not (eqb p 0) || b)

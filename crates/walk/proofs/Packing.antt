@@ -36,9 +36,6 @@ pack-page c k bad ask level at e s n f h z =
     let d : bitOr (e / 64) ask % 2 ≡ one (k .write || isOn 6 e) = or-mod (e / 64) ask 1 ∙ ap₂ bitOr (on-one 6 e) w ∙ or-one (isOn 6 e) (k .write) in
     rw (cut (c .width) (shift level) e (f .narrow) (omega (arith, f .wide)) z, d, ← on-one 8 e, ← on-one 1 s, ← on-one 2 s, ← on-one 63 s)
 
-pub page-found : (level base e s ask : ℕ) → leb 2048 (packed level base e s ask) ≡ true
-page-found level base e s ask = le-leb 2048 (packed level base e s ask) (omega arith)
-
 -- ---- a finding's parts, and a finding that is read back: its count follows from its level
 abbrev pub foundLevel : Found → ℕ
 foundLevel (Page base level r global dirty n) = level
