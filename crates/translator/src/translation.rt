@@ -50,8 +50,8 @@ fn keep(
 {
     let number = size::page_number(z, a);
     let set = size::set_of(z, number) as usize;
-    let shared = words::is_on(2, words::read_word(image, 8)) & global;
-    let tag = numbers::tag_of(shared, pcid, number);
+    let global = words::is_on(2, words::read_word(image, 8)) & global;
+    let tag = numbers::tag_of(global, pcid, number);
     buffer::fill::fill(image, set, tag, numbers::datum_of(r, dirty, base));
 }
 
