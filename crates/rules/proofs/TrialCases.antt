@@ -1,6 +1,6 @@
 -- The trial cases that document 01 marks P, in its order, as one list under one claim, what memory then holds included.
 use mathlib.Core.Path.{refl}
-use mathlib.Core.List.{List, [], _∷_}
+use mathlib.Core.List.{List, [], _∷_, _++_}
 use Rattle.rules.specs.Image.{encode, decode}
 use Rattle.rules.specs.Refusals.{translate, writeCr3, writeMode}
 use Rattle.rules.specs.TrialGuest.{guest}
@@ -8,24 +8,22 @@ use Rattle.rules.specs.declared.Cause.the-variants.{NotPresent, Reserved
 use Rattle.rules.specs.declared.Answer.the-variants.{Address, PageFault, Refused, Done}
 use Rattle.rules.proofs.Cases.{Call, _gives_, Ending, then, Case, blank, ready, Look, _holds_, AllRight}
 
-abbrev afresh : List Ending → Case
-afresh es = record { image = blank; memory = guest; calls = ready; endings = es }
+-- afresh; then some calls, and then each of several endings
+abbrev after : List Call → List Ending → Case
+after cs es = record { image = blank; memory = guest; calls = ready ++ cs; endings = es }
 
 abbrev trial : List Call → List Look → Case
-trial cs ls = afresh (then cs ls ∷ [])
+trial cs ls = after cs (then [] ls ∷ [])
 
 abbrev pub cases : List Case
 cases =
     trial (translate 0 0x123 gives Address 0x5123 0x1000 4 ∷ []) (0x4000 holds 0x5023 ∷ 0x1000 holds 0x2027 ∷ [])
-    ∷ afresh
-    (then (translate 0 0x123 gives Address 0x5123 0x1000 4 ∷ translate 1 0x123 gives Address 0x5123 0x1000 4 ∷ []) (0x4000 holds 0x5063 ∷ [])
-    ∷ then
-    (translate 0 0x123 gives Address 0x5123 0x1000 4 ∷ translate 1 0x123 gives Address 0x5123 0x1000 4
-    ∷ translate 1 0x123 gives Address 0x5123 0x1000 0 ∷ []) [] ∷ [])
+    ∷ after (translate 0 0x123 gives Address 0x5123 0x1000 4 ∷ translate 1 0x123 gives Address 0x5123 0x1000 4 ∷ [])
+    (then [] (0x4000 holds 0x5063 ∷ []) ∷ then (translate 1 0x123 gives Address 0x5123 0x1000 0 ∷ []) [] ∷ [])
     ∷ trial (translate 3 0x123 gives PageFault Protection 1 5 4 ∷ []) []
     ∷ trial (translate 4 0x1000 gives PageFault Protection 1 7 4 ∷ []) []
     ∷ trial (translate 5 0x2000 gives PageFault Protection 1 0x15 4 ∷ []) []
-    ∷ afresh
+    ∷ after []
     (then (translate 3 0x3000 gives PageFault NotPresent 1 4 4 ∷ []) []
     ∷ then (translate 5 0x3000 gives PageFault NotPresent 1 0x14 4 ∷ []) []
     ∷ then (writeMode 7 gives Done ∷ translate 5 0x3000 gives PageFault NotPresent 1 0x14 4 ∷ []) [] ∷ [])
