@@ -26,6 +26,6 @@ same-bytes (d then q with mem into r) = go (eqb (length r) 32) (same-bytes d)
 pub through : Through
 through d q mem r =
     record {
-      call = λ long. door-written r (doorBytes d) mem q long ∙ ap (λ (b : List ℕ). written (call b mem q)) (same-bytes d);
+      made = λ long. door-written r (doorBytes d) mem q long ∙ ap (λ (b : List ℕ). written (call b mem q)) (same-bytes d);
       nothing = door-refused r (doorBytes d) mem q;
     }

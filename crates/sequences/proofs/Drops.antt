@@ -115,7 +115,7 @@ module _ (s : Image) (mem : Memory) where
 pub drops : Drops
 drops b mem q bytes l ok =
     subst (Exactly (decode b) q) (sym (call-says b mem bytes q ok))
-    (record { slots = slot-left (decode b) mem q l; written = gone-or-kept (decode b) mem q l; victims = victims-left (decode b) mem q l })
+    (record { slots = slot-left (decode b) mem q l; gone-or-kept = gone-or-kept (decode b) mem q l; victims = victims-left (decode b) mem q l })
 
 -- ---- what covers an address names the page of each size that contains it, and so a slot that holds it
 covers-size : (who : Who) (a : ℕ) (s : Image) (q : Request) (z : Size) → Is z → covers who a s q ≡ true → names s q (heldAt who a z) ≡ true

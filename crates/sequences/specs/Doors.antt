@@ -29,7 +29,7 @@ historyOf (d then q with mem into r) = cond (eqb (length r) 32) (historyOf d the
 -- ---- the bytes are those of that history; so the next call answers, returns and leaves what the call after that history does, and one whose answer bytes
 -- have the wrong length leaves everything as it was
 pub record IsStep (d : Doors) (q : Request) (mem : Memory) (r : List ℕ) : Type 0 where
-  pub call : length r ≡ 32 → door r (doorBytes d) mem q ≡ written (call (bytes (historyOf d)) mem q)
+  pub made : length r ≡ 32 → door r (doorBytes d) mem q ≡ written (call (bytes (historyOf d)) mem q)
   pub nothing : (length r ≡ 32 → ⊥) → door r (doorBytes d) mem q ≡ record { number = 1; answer = r; image = doorBytes d; memory = mem }
 
 abbrev pub Through : Type 0

@@ -34,8 +34,8 @@ pub record IsPlaced (i : ℕ) (t : Slot) : Type 0 where
 abbrev pub Placed : Type 0
 Placed = (h : History) (i : ℕ) → isHeld (image h .slots i .tag) ≡ true → IsPlaced i (image h .slots i)
 
--- ---- an accepted operation other than translate leaves nothing in the slots that it names, and all others as they were; victim numbers stay through all but
--- start
+-- ---- an accepted operation other than translate: of the slots above those are empty that the list names, and the others as they were; no slot at all is
+-- anything but empty or as it was; victim numbers stay through all but start
 abbrev pub victimsAfter : Image → Request → ℕ
 victimsAfter s (start w) = 0
 victimsAfter s (translate k a) = s .victims
@@ -46,7 +46,7 @@ victimsAfter s (writeMode v) = s .victims
 
 pub record Exactly (s : Image) (q : Request) (s′ : Image) : Type 0 where
   pub slots : (i : ℕ) → IsPlaced i (s .slots i) → s′ .slots i ≡ cond (names s q (heldIn i (s .slots i .tag))) none (s .slots i)
-  pub written : (i : ℕ) → (s′ .slots i ≡ none) ⊎ (s′ .slots i ≡ s .slots i)
+  pub gone-or-kept : (i : ℕ) → (s′ .slots i ≡ none) ⊎ (s′ .slots i ≡ s .slots i)
   pub victims : s′ .victims ≡ victimsAfter s q
 
 abbrev pub Drops : Type 0

@@ -69,7 +69,7 @@ present e h = eq-eqb (e / 1 % 2) 1 (omega arith)
 missing : (e : ℕ) → e % 2 ≡ 0 → isOn 0 e ≡ false
 missing e h = ne-eqb (e / 1 % 2) 1 (omega arith)
 
--- an entry that ends the walk is the page unless it is unfit; any other is a table
+-- an entry that ends the walk is the page unless a reserved bit is set; any other is a table
 leaf-kind : (u : Bool) → sorted true u true ≡ cond u bad page
 leaf-kind true = refl
 leaf-kind false = refl

@@ -80,9 +80,9 @@ page-small level base e s ask at n mem m′ h hb d =
       memory = rw (h, none) (d .memory);
     }
 
-pub page-unfit : (level e s ask at : ℕ) (mem : Memory) (b : Bool) → b ≡ isReservedPage level e → b ≡ true
+pub page-reserved : (level e s ask at : ℕ) (mem : Memory) (b : Bool) → b ≡ isReservedPage level e → b ≡ true
     → AtPage mem mem at e level s ask (8 + level)
-page-unfit level e s ask at mem b h t = let y : isReservedPage level e ≡ true = sym h ∙ t in record { number = rw y; memory = rw y }
+page-reserved level e s ask at mem b h t = let y : isReservedPage level e ≡ true = sym h ∙ t in record { number = rw y; memory = rw y }
 
 pub page-large : (level base e s ask at n : ℕ) (mem m′ : Memory) (b : Bool) → b ≡ isReservedPage level e → b ≡ false → base ≡ part 52 (3 + 9 * level) e
     → AtLeaf mem m′ at e level base s ask n → AtPage mem m′ at e level s ask n

@@ -1,5 +1,5 @@
--- The two ways through it: an entry that is unfit, a large page.
-use Rattle.walk.proofs.Ways.{page-unfit, page-large, part-low}
+-- The two ways through it: a reserved bit is set, or it is a large page.
+use Rattle.walk.proofs.Ways.{page-reserved, page-large, part-low}
 use borrow.Author.Needs.{needs}
 use Rattle.walk.proofs.page.Statement.{statement}
 use Rattle.walk.proofs.page.Tie as tie
@@ -11,7 +11,7 @@ add-result : tie.Need-add-result
 add-result c = search needs
 
 returns : tie.Need-returns
-returns c = search page-unfit
+returns c = search page-reserved
 
 mul-part : tie.Need-mul-part
 mul-part c = search needs
