@@ -16,7 +16,7 @@
 enum { GUEST_BYTES = 24 * 1024, FLAGS = 23, ROOT = 0x1000 };
 
 static _Alignas(64) uint8_t images[PASTRULOW_IMAGE_BYTES + 64], kept[PASTRULOW_IMAGE_BYTES];
-static _Alignas(64) uint8_t memory[GUEST_BYTES];
+static _Alignas(64) uint8_t memory[GUEST_BYTES], tables[GUEST_BYTES];
 static _Alignas(64) uint8_t record[PASTRULOW_ANSWER_BYTES];
 static uint8_t *image = images;
 
@@ -58,12 +58,15 @@ enum name { START, TRANSLATE, INVLPG, INVPCID, WRITE_CR3, WRITE_MODE };
  */
 enum held { NOTHING, PAGE_4K, PAGE_2M, PAGE_1G, FULL, FULL_OF_OTHERS, FULL_OF_GLOBAL };
 
+/* What is put back before each call: nothing, the image, or with it the guest's tables, which then have no accessed bit set. */
+enum restored { NONE, IMAGE, IMAGE_AND_TABLES };
+
 struct operation {
     const char *title;
     enum name name;
     uint64_t numbers[3];
     enum held held;
-    bool restored;   /* the image is put back before each call */
+    enum restored restored;
     unsigned offset; /* of the image from an alignment of 64 */
     struct pastrulow_answer expected;
 };
@@ -71,27 +74,28 @@ struct operation {
 #define FAR_ADDRESS UINT64_C(0x00007FFFFFFFF000)
 
 static const struct operation operations[] = {
-    {"hit, 4 KiB", TRANSLATE, {0, 0x123, 0}, PAGE_4K, false, 0, {0, 0x5123, 4096, 0}},
-    {"hit, 4 KiB, image not aligned", TRANSLATE, {0, 0x123, 0}, PAGE_4K, false, 8, {0, 0x5123, 4096, 0}},
-    {"hit, 4 KiB, last way, all held", TRANSLATE, {0, 0x123, 0}, FULL, false, 0, {0, 0x5123, 4096, 0}},
-    {"hit, 2 MiB", TRANSLATE, {0, 0x212345, 0}, PAGE_2M, false, 0, {0, 0x612345, 2097152, 0}},
-    {"hit, 2 MiB, last way, all held", TRANSLATE, {0, 0x212345, 0}, FULL, false, 0, {0, 0x612345, 2097152, 0}},
-    {"hit, 1 GiB", TRANSLATE, {0, 0x40000010, 0}, PAGE_1G, false, 0, {0, 0x40000010, 1073741824, 0}},
-    {"miss, 4 KiB: 4 levels and fill", TRANSLATE, {0, 0x123, 0}, NOTHING, true, 0, {0, 0x5123, 4096, 4}},
-    {"miss, 4 KiB, all held: a victim", TRANSLATE, {0, 0x123, 0}, FULL_OF_OTHERS, true, 0, {0, 0x5123, 4096, 4}},
-    {"miss, 2 MiB: 3 levels and fill", TRANSLATE, {0, 0x212345, 0}, NOTHING, true, 0, {0, 0x612345, 2097152, 3}},
-    {"fault at level 4", TRANSLATE, {0, FAR_ADDRESS, 0}, NOTHING, false, 0, {1, 0, 0, 1}},
-    {"INVLPG of a page held", INVLPG, {0x123, 0, 0}, PAGE_4K, true, 0, {3, 0, 0, 0}},
-    {"CR3 write, buffer empty", WRITE_CR3, {ROOT, 0, 0}, NOTHING, false, 0, {3, 0, 0, 0}},
-    {"CR3 write, all held and dropped", WRITE_CR3, {ROOT, 0, 0}, FULL, true, 0, {3, 0, 0, 0}},
-    {"CR3 write, all held and global", WRITE_CR3, {ROOT, 0, 0}, FULL_OF_GLOBAL, false, 0, {3, 0, 0, 0}},
-    {"mode write, nothing changes", WRITE_MODE, {FLAGS, 0, 0}, PAGE_4K, false, 0, {3, 0, 0, 0}},
-    {"mode write, all dropped", WRITE_MODE, {FLAGS & ~4, 0, 0}, PAGE_4K, true, 0, {3, 0, 0, 0}},
-    {"INVPCID type 0 of a page held", INVPCID, {0, 0, 0x123}, PAGE_4K, true, 0, {3, 0, 0, 0}},
-    {"INVPCID type 1, one page held", INVPCID, {1, 0, 0}, PAGE_4K, true, 0, {3, 0, 0, 0}},
-    {"INVPCID type 2, one page held", INVPCID, {2, 0, 0}, PAGE_4K, true, 0, {3, 0, 0, 0}},
-    {"INVPCID type 3, one page held", INVPCID, {3, 0, 0}, PAGE_4K, true, 0, {3, 0, 0, 0}},
-    {"start", START, {40, 0, 0}, NOTHING, false, 0, {3, 0, 0, 0}},
+    {"hit, 4 KiB", TRANSLATE, {0, 0x123, 0}, PAGE_4K, NONE, 0, {0, 0x5123, 4096, 0}},
+    {"hit, 4 KiB, image not aligned", TRANSLATE, {0, 0x123, 0}, PAGE_4K, NONE, 8, {0, 0x5123, 4096, 0}},
+    {"hit, 4 KiB, last way, all held", TRANSLATE, {0, 0x123, 0}, FULL, NONE, 0, {0, 0x5123, 4096, 0}},
+    {"hit, 2 MiB", TRANSLATE, {0, 0x212345, 0}, PAGE_2M, NONE, 0, {0, 0x612345, 2097152, 0}},
+    {"hit, 2 MiB, last way, all held", TRANSLATE, {0, 0x212345, 0}, FULL, NONE, 0, {0, 0x612345, 2097152, 0}},
+    {"hit, 1 GiB", TRANSLATE, {0, 0x40000010, 0}, PAGE_1G, NONE, 0, {0, 0x40000010, 1073741824, 0}},
+    {"miss, 4 KiB: 4 levels and fill", TRANSLATE, {0, 0x123, 0}, NOTHING, IMAGE, 0, {0, 0x5123, 4096, 4}},
+    {"miss, 4 KiB, sets accessed bits", TRANSLATE, {0, 0x123, 0}, NOTHING, IMAGE_AND_TABLES, 0, {0, 0x5123, 4096, 4}},
+    {"miss, 4 KiB, all held: a victim", TRANSLATE, {0, 0x123, 0}, FULL_OF_OTHERS, IMAGE, 0, {0, 0x5123, 4096, 4}},
+    {"miss, 2 MiB: 3 levels and fill", TRANSLATE, {0, 0x212345, 0}, NOTHING, IMAGE, 0, {0, 0x612345, 2097152, 3}},
+    {"fault at level 4", TRANSLATE, {0, FAR_ADDRESS, 0}, NOTHING, NONE, 0, {1, 0, 0, 1}},
+    {"INVLPG of a page held", INVLPG, {0x123, 0, 0}, PAGE_4K, IMAGE, 0, {3, 0, 0, 0}},
+    {"CR3 write, buffer empty", WRITE_CR3, {ROOT, 0, 0}, NOTHING, NONE, 0, {3, 0, 0, 0}},
+    {"CR3 write, all held and dropped", WRITE_CR3, {ROOT, 0, 0}, FULL, IMAGE, 0, {3, 0, 0, 0}},
+    {"CR3 write, all held and global", WRITE_CR3, {ROOT, 0, 0}, FULL_OF_GLOBAL, NONE, 0, {3, 0, 0, 0}},
+    {"mode write, nothing changes", WRITE_MODE, {FLAGS, 0, 0}, PAGE_4K, NONE, 0, {3, 0, 0, 0}},
+    {"mode write, all dropped", WRITE_MODE, {FLAGS & ~4, 0, 0}, PAGE_4K, IMAGE, 0, {3, 0, 0, 0}},
+    {"INVPCID type 0 of a page held", INVPCID, {0, 0, 0x123}, PAGE_4K, IMAGE, 0, {3, 0, 0, 0}},
+    {"INVPCID type 1, one page held", INVPCID, {1, 0, 0}, PAGE_4K, IMAGE, 0, {3, 0, 0, 0}},
+    {"INVPCID type 2, one page held", INVPCID, {2, 0, 0}, PAGE_4K, IMAGE, 0, {3, 0, 0, 0}},
+    {"INVPCID type 3, one page held", INVPCID, {3, 0, 0}, PAGE_4K, IMAGE, 0, {3, 0, 0, 0}},
+    {"start", START, {40, 0, 0}, NOTHING, NONE, 0, {3, 0, 0, 0}},
 };
 
 enum { OPERATIONS = sizeof operations / sizeof *operations };
@@ -147,22 +151,32 @@ static void hold(enum held held)
     hold_pages(24, 1, 0x40000000, round, held == FULL_OF_GLOBAL);
 }
 
-/* The part of document 01's trial guest that the operations use, with every accessed bit set. */
+/* The part of document 01's trial guest that the operations use, with every accessed bit set or with none. */
 static void set_up(const struct operation *operation)
 {
     size_t image_len = PASTRULOW_IMAGE_BYTES;
+    uint64_t accessed = operation->restored == IMAGE_AND_TABLES ? 0 : 0x20;
     image = images + operation->offset;
-    put_word(memory, 0x1000, 0x2027);
-    put_word(memory, 0x2000, 0x3027);
-    put_word(memory, 0x2008, 0x400000a3);
-    put_word(memory, 0x3000, 0x4027);
-    put_word(memory, 0x3008, 0x6000a7);
-    put_word(memory, 0x4000, 0x5023);
+    put_word(memory, 0x1000, 0x2007 | accessed);
+    put_word(memory, 0x2000, 0x3007 | accessed);
+    put_word(memory, 0x2008, 0x40000083 | accessed);
+    put_word(memory, 0x3000, 0x4007 | accessed);
+    put_word(memory, 0x3008, 0x600087 | accessed);
+    put_word(memory, 0x4000, 0x5003 | accessed);
     pastrulow_start(image, image_len, 40, record, sizeof record);
     pastrulow_write_cr3(image, image_len, ROOT, record, sizeof record);
     pastrulow_write_mode(image, image_len, FLAGS, record, sizeof record);
     hold(operation->held);
     memcpy(kept, image, image_len);
+    memcpy(tables, memory, sizeof memory);
+}
+
+static void restore(enum restored restored)
+{
+    if (restored != NONE)
+        memcpy(image, kept, PASTRULOW_IMAGE_BYTES);
+    if (restored == IMAGE_AND_TABLES)
+        memcpy(memory, tables, sizeof memory);
 }
 
 static bool as_expected(const struct operation *operation)
@@ -190,8 +204,7 @@ int main(int count, char **arguments)
         return 1;
     }
     for (unsigned long i = 0; i < times; i++) {
-        if (operation->restored)
-            memcpy(image, kept, PASTRULOW_IMAGE_BYTES);
+        restore(operation->restored);
         make(door, operation);
     }
     return 0;
