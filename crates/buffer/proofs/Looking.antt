@@ -13,7 +13,7 @@ use lib.Seq.{drop-cons}
 use lib.Bits.{bitAnd, bitXor}
 use borrow.Author.Tests.{eq-eqb}
 use Rattle.rules.specs.Bits.{wordAt}
-use Rattle.rules.specs.Sizes.{small, middle, large, Is, sizeAt, pageNumber, setOf, ways, slotsOf}
+use Rattle.rules.specs.Sizes.{small, middle, large, Is, sizeAt, pageNumber, setOf, ways}
 use Rattle.rules.specs.Image.{decode, pcid, isHeld}
 use Rattle.rules.specs.Buffer.{contains, matches, Hit, hit, miss, first, allWays, find}
 use Rattle.rules.specs.declared.Size.{Size}
@@ -21,10 +21,9 @@ use Rattle.rules.proofs.PlaceLaws.{tag-at}
 use Rattle.rules.proofs.SizeLaws.{size-at, set-lt, slot-size}
 use Rattle.buffer.specs.declared.look.Place.{Place}
 use Rattle.buffer.specs.declared.look.Place.the-variants.{At, Nowhere}
-use Rattle.sets.specs.Ways.{tagIn, tagsIn, anyHeld}
+use Rattle.sets.specs.Ways.{tagIn, anyHeld}
 use Rattle.buffer.specs.Look.{hitOf, Right, Looks, holdsPage, isOf, holds, FirstHeld}
 use Rattle.sets.proofs.TagTests.{test-same}
-use Rattle.sets.proofs.FourTags.{any-odd}
 
 -- ---- what is tested of a tag
 pub page-test : (b : List ℕ) (at n t : ℕ) → n < 2 ^ 36 → t ≡ wordAt b at → eqb (bitAnd (bitXor t (n * 0x4000 + 1)) 0x3FFFFFFFFC001) 0 ≡ holdsPage n (wordAt b at)
@@ -48,9 +47,6 @@ module _ (b : List ℕ) (a : ℕ) (z : Size) (n s : ℕ) (is : Is z) (en : n ≡
   slot-right i h =
       let g : i / 4 ≡ setOf z a = h ∙ own-set in
       (omega (arith, set-lt z a is), ap (λ (y : Size). y .length) (sym (slot-size z a i is g)))
-
-  pub any-test : (n : ℕ) → n ≡ tagsIn b s → eqb (n % 2) 1 ≡ anyHeld b (ways z a)
-  any-test n e = ap (λ (x : ℕ). eqb (x % 2) 1) e ∙ any-odd b s ∙ ap (λ (y : ℕ). anyHeld b (slotsOf y)) own-set
 
   of-set : (r : Place) → hitOf r ≡ first (holds b a) (4 * s ∷ (4 * s + 1) ∷ (4 * s + 2) ∷ (4 * s + 3) ∷ []) → Right r → FirstHeld b a (ways z a) r
   of-set r h g = subst (λ (y : ℕ). FirstHeld b a (4 * y ∷ (4 * y + 1) ∷ (4 * y + 2) ∷ (4 * y + 3) ∷ []) r) own-set (record { held = h; right = g })

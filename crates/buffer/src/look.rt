@@ -7,7 +7,7 @@ ghost use Rattle.rules.specs.Bits.{wordAt};
 ghost use Rattle.rules.specs.Sizes.{Is, ways};
 ghost use Rattle.rules.specs.Image.{decode, pcid as pcidOf};
 ghost use Rattle.rules.specs.Buffer.{allWays};
-ghost use Rattle.sets.specs.Ways.{tagIn, anyHeld};
+ghost use Rattle.sets.specs.Ways.{tagIn};
 ghost use Rattle.buffer.specs.Look.{Looks, holdsPage, isOf, FirstHeld};
 use rules::Size;
 use sets::size;
@@ -62,22 +62,12 @@ fn held_of(image: &[u8], z: Size, a: u64) -> Place
     Place::Nowhere
 }
 
-// Whether one of the four ways of the address's set for a size is held.
-fn any_in(image: &[u8], z: Size, a: u64) -> bool
-    requires { ⌜ (length (now image) ≡ 2048) × Is z ⌝ }
-    ensures { λ r. ⌜ r ≡ anyHeld (now (image .entry)) (ways z a) ⌝ }
-{
-    let number = size::page_number(z, a);
-    let set = size::set_of(z, number) as usize;
-    tags::tags_in(image, set) % 2 == 1
-}
-
 // The same as `held_of`, for a size whose sets are often empty: then none of the ways is compared.
 fn held_large(image: &[u8], z: Size, a: u64) -> Place
     requires { ⌜ (length (now image) ≡ 2048) × Is z ⌝ }
     ensures { λ r. ⌜ FirstHeld (now (image .entry)) a (ways z a) r ⌝ }
 {
-    if any_in(image, z, a) {
+    if tags::any_in(image, z, a) {
         return held_of(image, z, a);
     }
     Place::Nowhere

@@ -1,3 +1,3 @@
-pub mod SetTests
 pub mod DropLaws
+pub mod SetTests
 pub mod DropWays

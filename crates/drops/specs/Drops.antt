@@ -1,11 +1,9 @@
 -- Drops in an image's bytes, and the one test that the code makes of a tag: its bits under a mask are those wanted, and, unless it is global, so are
 -- its bits under a second one.
 use Prim.Native.Nat.{ℕ, _/_}
-use mathlib.Core.Bool.{Bool, true, cond, _&&_, _||_, not}
+use mathlib.Core.Bool.{Bool, true, _&&_, _||_, not}
 use mathlib.Core.List.{List}
-use lib.ListN.{replicate}
 use lib.Dec.{leb, ltb, eqb}
-use Rattle.rules.specs.Bits.{wordAt}
 use Rattle.rules.specs.Sizes.{pageNumber, setOf}
 use Rattle.rules.specs.Image.{encode, decode, isGlobal, pageIn}
 use Rattle.rules.specs.Buffer.{contains, ofPcid, dropped}
@@ -39,21 +37,15 @@ abbrev pub masked : ℕ → ℕ → ℕ → ℕ → Bool
 masked mask want i t = isMasked mask want t
 
 -- slots from l on and before h
-abbrev pub maskedFrom : ℕ → ℕ → ℕ → ℕ → ℕ → ℕ → ℕ → ℕ → Bool
-maskedFrom l h mask want own whose i t = (leb l i && ltb i h) && isAsked mask want own whose t
+abbrev pub isFrom : ℕ → ℕ → ℕ → Bool
+isFrom l h i = leb l i && ltb i h
 
--- of a set
-abbrev pub maskedIn : ℕ → ℕ → ℕ → ℕ → ℕ → ℕ → ℕ → Bool
-maskedIn set mask want own whose i t = eqb (i / 4) set && isAsked mask want own whose t
+abbrev pub everyFrom : ℕ → ℕ → ℕ → ℕ → Bool
+everyFrom l h i t = isFrom l h i
+
+abbrev pub maskedFrom : ℕ → ℕ → ℕ → ℕ → ℕ → ℕ → ℕ → ℕ → Bool
+maskedFrom l h mask want own whose i t = isFrom l h i && isAsked mask want own whose t
 
 -- for the address's page of one size
 abbrev pub maskedOf : Size → ℕ → ℕ → ℕ → ℕ → ℕ → ℕ → ℕ → Bool
 maskedOf z a mask want own whose i t = (eqb (i / 4) (setOf z a) && eqb (pageIn t) (pageNumber z a)) && isAsked mask want own whose t
-
--- for the address's page of any size
-abbrev pub maskedAt : ℕ → ℕ → ℕ → ℕ → ℕ → ℕ → ℕ → Bool
-maskedAt a mask want own whose i t = contains a i t && isAsked mask want own whose t
-
--- a slot's sixteen bytes afterwards
-abbrev pub slotLeft : ℕ → ℕ → ℕ → ℕ → List ℕ → List ℕ
-slotLeft mask want own whose s = cond (isAsked mask want own whose (wordAt s 0)) (replicate 16 0) s

@@ -1,32 +1,22 @@
 -- The ways through the checks: what each return has to show, from the tests on its way. The image's words are read where its parts stand.
 use Prim.Native.Nat.{ℕ, _+_, _-_, _/_, _%_, _^_, _≤_, _<_}
 use mathlib.Core.Path.{_≡_, ap, sym, _∙_}
-use mathlib.Core.Bool.{Bool, true, false, cond, _&&_, _||_, not, and-true, or-true, or-false}
+use mathlib.Core.Bool.{Bool, true, false, cond, _&&_, _||_, not, or-true, or-false}
 use mathlib.Core.List.{List, []}
 use native.Mathlib.Omega.{arith}
 use native.Mathlib.Decide.{decLt}
-use native.Mathlib.Numerals.{add-one}
-use lib.ListN.{length, getD, take, drop, length-drop}
-use lib.Seq.{take-suc, take-all}
+use lib.ListN.{length, take, drop, length-drop}
+use lib.Seq.{take-all}
 use lib.Dec.{eqb, leb, ltb}
-use lib.Bits.{bitOr}
 use borrow.Author.Tests.{eq-eqb, ne-eqb, lt-ltb, le-ltb, le-leb, lt-leb}
 use Rattle.rules.specs.Bits.{wordsOf, isOn, part, wordAt}
 use Rattle.rules.specs.Image.{decode, control}
 use Rattle.rules.specs.Memory.{Memory}
 use Rattle.rules.specs.Refusals.{start, translate, canonical, isLong, isOutside, allZero, isUnfit, noAddress, noCr3, noMode, noInvpcid, refusal}
 use Rattle.rules.specs.declared.Control.{Control}
-use Rattle.rules.proofs.WordLaws.{zero-append, zero-tail}
-use Rattle.words.proofs.Masks.{zero-or}
+use Rattle.rules.proofs.WordLaws.{zero-tail}
 use Rattle.rules.proofs.PlaceLaws.{width-at, flags-at, cr3-at, victims-at}
 use Rattle.rules.proofs.RefusalLaws.{fit}
-
--- ---- gather
-pub one-more : (s : List ℕ) (i a : ℕ) → i < length s → eqb a 0 ≡ allZero (take i s) → eqb (bitOr a (getD s i 0)) 0 ≡ allZero (take (i + 1) s)
-one-more s i a h e = rw (add-one, take-suc s i 0 h, zero-append, and-true, zero-or, e)
-
-pub all-seen : (s : List ℕ) (i a : ℕ) → length s ≤ i → eqb a 0 ≡ allZero (take i s) → eqb a 0 ≡ allZero s
-all-seen s i a h e = e ∙ ap allZero (take-all i s h)
 
 -- ---- the image
 pub not-long : (b : List ℕ) → (length b ≡ 2048 → ⊥) → true ≡ isUnfit b
@@ -92,9 +82,18 @@ module _ (b : List ℕ) (a f : ℕ) (hf : f ≡ wordAt b 8) where
       let e : r / 1 % 4096 ≡ n = omega arith in
       rw (flags-at b, cr3-at b, ← hf, ← hr, ← hp, ← hq, ← hg, e)
 
-  pub no-invpcid-is : (t k : ℕ) (p q : Bool) → p ≡ isOn 3 f → ((c : Control) → q ≡ canonical c a)
-      → (ltb 3 t || ltb 4095 k || (eqb t 0 && not q) || (leb t 1 && not p && not (eqb k 0))) ≡ noInvpcid (decode b) t k a
-  no-invpcid-is t k p q hp hq = rw (flags-at b, ← hf, ← hp, ← hq (control (decode b)))
+-- INVPCID: a type and a PCID that there are; then only the first two types ask more
+module _ (b : List ℕ) (t k a : ℕ) where
+  pub no-such : (ltb 3 t || ltb 4095 k) ≡ true → true ≡ noInvpcid (decode b) t k a
+  no-such e = rw e
+
+  module _ (e : (ltb 3 t || ltb 4095 k) ≡ false) where
+    pub asks-no-more : 1 < t → false ≡ noInvpcid (decode b) t k a
+    asks-no-more h = rw (e, ne-eqb t 0 (omega arith), lt-leb t 1 h)
+
+    pub by-pcid : t ≤ 1 → (f : ℕ) (p q : Bool) → f ≡ wordAt b 8 → p ≡ isOn 3 f → ((c : Control) → q ≡ canonical c a)
+        → ((eqb t 0 && not q) || (not p && not (eqb k 0))) ≡ noInvpcid (decode b) t k a
+    by-pcid h f p q hf hp hq = rw (e, le-leb t 1 h, flags-at b, ← hf, ← hp, ← hq (control (decode b)))
 
 pub width-low : (b : List ℕ) (w : ℕ) → decode b .width ≤ 52 → w ≡ wordAt b 0 → w ≤ 63
 width-low b w h e = omega (arith, width-at b)

@@ -3,24 +3,10 @@ ghost use mathlib.Core.Path.{_≡_};
 ghost use Prim.Native.Nat.{_≤_};
 ghost use mathlib.Core.Bool.{cond};
 ghost use mathlib.Core.List.{[]};
-ghost use lib.Dec.{eqb};
 ghost use lib.ListN.{length};
 ghost use Rattle.rules.specs.Image.{decode};
-ghost use Rattle.rules.specs.Refusals.{start, translate, invlpg, invpcid, writeCr3, writeMode, canonical, allZero, isOutside, isUnfit, noAddress, noCr3, noMode, noInvpcid, refusal};
+ghost use Rattle.rules.specs.Refusals.{start, translate, invlpg, invpcid, writeCr3, writeMode, canonical, isOutside, isUnfit, noAddress, noCr3, noMode, noInvpcid, refusal};
 ghost use Rattle.rules.specs.declared.Control.{Control};
-
-// All bytes or-ed together, with no early exit: 0 exactly if all are.
-fn gather(s: &[u8]) -> u8
-    ensures { λ r. ⌜ eqb r 0 ≡ allZero (now (s .entry)) ⌝ }
-{
-    let mut acc: u8 = 0;
-    let mut i = 0;
-    while i < s.len() {
-        acc = acc | s[i];
-        i += 1;
-    }
-    acc
-}
 
 fn is_outside(width: u64) -> bool
     ensures { λ r. ⌜ r ≡ isOutside width ⌝ }
@@ -35,7 +21,7 @@ fn is_unfit(image: &[u8]) -> bool
     if image.len() != 2048 {
         return true;
     }
-    if gather(&image[1632..2048]) != 0 {
+    if words::gather(&image[1632..2048]) != 0 {
         return true;
     }
     let width = words::read_word(image, 0);
@@ -87,15 +73,19 @@ fn no_mode(image: &[u8], value: u64) -> bool
     (31 < value) | (wanted & !words::is_on(0, value)) | (wanted & !pcide & !(named == 0))
 }
 
+// Only the first two types ask whether PCIDs are on, and only the first asks for the address.
 fn no_invpcid(image: &[u8], kind: u64, pcid: u64, a: u64) -> bool
     requires { ⌜ length (now image) ≡ 2048 ⌝ }
     ensures { λ r. ⌜ r ≡ noInvpcid (decode (now (image .entry))) kind pcid a ⌝ }
 {
+    if (3 < kind) | (4095 < pcid) {
+        return true;
+    }
+    if 1 < kind {
+        return false;
+    }
     let pcide = words::is_on(3, words::read_word(image, 8));
-    (3 < kind)
-        | (4095 < pcid)
-        | ((kind == 0) & !is_canonical(a))
-        | ((kind <= 1) & !pcide & !(pcid == 0))
+    ((kind == 0) & !is_canonical(a)) | (!pcide & !(pcid == 0))
 }
 
 pub fn start_refusal(image: &[u8], width: u64) -> u64

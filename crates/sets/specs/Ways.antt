@@ -1,17 +1,13 @@
--- A set's four ways in the image's bytes, and the compare of a tag under a mask.
-use Prim.Native.Nat.{ℕ, _+_, _*_}
+-- The tags of slots in the image's bytes, and the compare of a tag under a mask.
+use Prim.Native.Nat.{ℕ}
 use mathlib.Core.Bool.{Bool, false, _||_}
 use mathlib.Core.List.{List, [], _∷_}
 use lib.Dec.{eqb}
-use lib.Bits.{bitAnd, bitOr}
+use lib.Bits.{bitAnd}
 use Rattle.rules.specs.Image.{decode, isHeld}
 
 abbrev pub tagIn : List ℕ → ℕ → ℕ
 tagIn b i = decode b .slots i .tag
-
--- the tags of a set's four ways, or-ed
-abbrev pub tagsIn : List ℕ → ℕ → ℕ
-tagsIn b s = bitOr (bitOr (bitOr (tagIn b (4 * s)) (tagIn b (4 * s + 1))) (tagIn b (4 * s + 2))) (tagIn b (4 * s + 3))
 
 -- one of some slots is held
 abbrev pub anyHeld : List ℕ → List ℕ → Bool

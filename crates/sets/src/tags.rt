@@ -1,17 +1,17 @@
 // The tags of a set's four ways together.
 ghost use mathlib.Core.Path.{_≡_};
-ghost use Prim.Native.Nat.{_<_};
 ghost use lib.ListN.{length};
-ghost use Rattle.sets.specs.Ways.{tagsIn};
+ghost use Rattle.rules.specs.Sizes.{Is, ways};
+ghost use Rattle.sets.specs.Ways.{anyHeld};
+use crate::size;
+use rules::Size;
 
-// Or-ed: 0 exactly if each is, and odd exactly if one of them is held.
-pub fn tags_in(image: &[u8], set: usize) -> u64
-    requires { ⌜ (length (now image) ≡ 2048) × (set < 25) ⌝ }
-    ensures { λ r. ⌜ r ≡ tagsIn (now (image .entry)) set ⌝ }
+// Whether one of the four ways of the address's set for a size is held, which is bit 0 of a tag's lowest byte.
+pub fn any_in(image: &[u8], z: Size, a: u64) -> bool
+    requires { ⌜ (length (now image) ≡ 2048) × Is z ⌝ }
+    ensures { λ r. ⌜ r ≡ anyHeld (now (image .entry)) (ways z a) ⌝ }
 {
-    let at = 32 + set * 64;
-    words::read_word(image, at)
-        | words::read_word(image, at + 16)
-        | words::read_word(image, at + 32)
-        | words::read_word(image, at + 48)
+    let number = size::page_number(z, a);
+    let at = 32 + size::set_of(z, number) as usize * 64;
+    (image[at] | image[at + 16] | image[at + 32] | image[at + 48]) % 2 == 1
 }

@@ -2,11 +2,9 @@
 use Prim.Native.Nat.{ℕ, zero, suc, _+_, _%_, _^_, _≤_, _<_}
 use mathlib.Core.Path.{_≡_, refl, ap, ap₂, sym, _∙_, subst}
 use mathlib.Core.Bool.{Bool, true, false, _&&_, not}
-use mathlib.Core.List.{List, [], _∷_, _++_}
+use mathlib.Core.List.{List, []}
 use native.Mathlib.Omega.{arith}
-use native.Mathlib.Numerals.{add-one}
-use lib.ListN.{length, take, set, replicate, length-replicate}
-use lib.Seq.{take-suc-set, take-all}
+use lib.ListN.{length, replicate, length-replicate}
 use Rattle.rules.specs.Bits.{AreBytes, isOn, wordAt, wordPut}
 use Rattle.rules.specs.Image.{Image, started, encode, decode, control, pcid, Sound, IsImage}
 use Rattle.rules.specs.Memory.{Memory}
@@ -21,19 +19,6 @@ use Rattle.rules.proofs.PlaceLaws.{is-encoded, flags-at, sound-flags, sound-cr3
 use Rattle.rules.proofs.RefusalLaws.{given, Later, fits, fit-image}
 use Rattle.drops.specs.Drops.{droppedIn, every, notGlobal, everyOf, everyOfAt}
 use Rattle.translator.specs.Contract.{Leaves}
-
--- ---- clear
-zeros-next : (i : ℕ) → replicate {A = ℕ} (suc i) 0 ≡ replicate i 0 ++ (0 ∷ [])
-zeros-next zero = refl
-zeros-next (suc i) = ap (λ (l : List ℕ). 0 ∷ l) (zeros-next i)
-
-pub zero-more : (s : List ℕ) (i : ℕ) → i < length s → take i s ≡ replicate i 0 → take (i + 1) (set s i 0) ≡ replicate (i + 1) 0
-zero-more s i h e = rw (add-one, take-suc-set s i 0 h, e, zeros-next i)
-
-pub all-zeroed : (s s₀ : List ℕ) (i : ℕ) → length s ≡ length s₀ → length s ≤ i → i ≤ length s₀ → take i s ≡ replicate i 0 → s ≡ replicate (length s₀) 0
-all-zeroed s s₀ i l h g e =
-    let q : i ≡ length s₀ = omega arith in
-    sym (take-all i s h) ∙ e ∙ ap (λ (n : ℕ). replicate {A = ℕ} n 0) q
 
 -- ---- refused, or accepted
 pub refuses : (q : Request) (b : List ℕ) (n : ℕ) → ((mem : Memory) → refusal b mem q ≡ refusal b [] q) → n ≡ refusal b [] q → (n ≡ 0 → ⊥)

@@ -1,21 +1,9 @@
 // The calls, each answering as the rules' call of its name.
 ghost use mathlib.Core.Path.{_≡_};
-ghost use lib.ListN.{length, replicate};
 ghost use Rattle.rules.specs.Refusals.{start as startOf, invlpg as invlpgOf, invpcid as invpcidOf, writeCr3, writeMode};
 ghost use Rattle.rules.specs.Calls.{isSame, sameMode};
 ghost use Rattle.translator.specs.Contract.{Leaves};
 use rules::Answer;
-
-// Every byte is zero.
-fn clear(s: &mut [u8])
-    ensures { λ _. ⌜ now (s .exit) ≡ replicate (length (now (s .entry))) 0 ⌝ }
-{
-    let mut i = 0;
-    while i < s.len() {
-        s[i] = 0;
-        i += 1;
-    }
-}
 
 // The image is that of a processor of the given width, with paging off and nothing held.
 pub fn start(image: &mut [u8], width: u64) -> Answer
@@ -25,7 +13,7 @@ pub fn start(image: &mut [u8], width: u64) -> Answer
     if number != 0 {
         return Answer::Refused { number };
     }
-    clear(image);
+    words::clear(image);
     words::write_word(image, 0, width);
     Answer::Done
 }

@@ -1,17 +1,23 @@
--- What the code computes, in the rules' names: eight bytes added up are their word, eight stores put a word, an `or` with one bit sets it, and
--- shifts and a remainder cut out a part.
+-- What the code computes, in the rules' names: eight bytes added up are their word, eight stores put a word, an `or` over all bytes is 0 if each is, stores to
+-- all bytes leave nothing else, an `or` with one bit sets it, and shifts and a remainder cut out a part.
 use Prim.Native.Nat.{ℕ, zero, suc, _+_, _-_, _*_, _/_, _%_, _^_, _≤_, _<_}
 use mathlib.Core.Path.{_≡_, refl, ap, ap₂, sym, _∙_}
+use mathlib.Core.Bool.{and-true}
 use mathlib.Core.List.{List, [], _∷_, _++_, append-assoc}
 use native.Mathlib.Omega.{arith}
+use native.Mathlib.Numerals.{add-one}
 use native.Mathlib.Nat.{mod-lt, max-eq-right, le-of-suc-le-suc, one-mul, add-zero, add-assoc, div-div-eq-div-mul}
-use lib.ListN.{length, getD, take, drop, set}
-use lib.Seq.{sets-eq, getD-drop, drop-drop}
+use lib.ListN.{length, getD, take, drop, set, replicate}
+use lib.Seq.{sets-eq, getD-drop, drop-drop, take-suc, take-suc-set, take-all}
+use lib.Dec.{eqb}
 use lib.Pow.{field, pow-pos, split, shl-exact}
 use lib.Bits.{bitOr, or-block, or-step, or-zero-r}
 use Rattle.rules.specs.Bits.{part, withBit, word, wordAt, bytesOf, wordPut}
 use Rattle.rules.specs.Memory.{Memory, added}
+use Rattle.rules.specs.Refusals.{allZero}
+use Rattle.rules.proofs.WordLaws.{zero-append}
 use Rattle.words.specs.Eight.{eightAt}
+use Rattle.words.proofs.Masks.{zero-or}
 
 -- ---- a word read
 word-first : (n : ℕ) (b : List ℕ) → word (take (suc n) b) ≡ getD b 0 0 + 256 * word (take n (drop 1 b))
@@ -19,7 +25,7 @@ word-first zero [] = refl
 word-first (suc n) [] = refl
 word-first n (x ∷ b) = refl
 
-word-next : (n at : ℕ) (b : List ℕ) → word (take (suc n) (drop at b)) ≡ getD b at 0 + 256 * word (take n (drop (at + 1) b))
+pub word-next : (n at : ℕ) (b : List ℕ) → word (take (suc n) (drop at b)) ≡ getD b at 0 + 256 * word (take n (drop (at + 1) b))
 word-next n at b = word-first n (drop at b) ∙ rw (getD-drop at b 0, add-zero, drop-drop 1 at b)
 
 pub word-eight : (at : ℕ) (b : List ℕ) → eightAt b at ≡ wordAt b at
@@ -64,6 +70,26 @@ put-eight s at x fits =
     (sets-eq (x % 256 ∷ (x / 0x100 % 256) ∷ (x / 0x10000 % 256) ∷ (x / 0x1000000 % 256) ∷ (x / 0x100000000 % 256) ∷ (x / 0x10000000000 % 256)
     ∷ (x / 0x1000000000000 % 256) ∷ (x / 0x100000000000000 % 256) ∷ []) s at fits
     ∙ append-assoc (take at s) _ (drop (at + 8) s) ∙ ap (λ (l : List ℕ). take at s ++ (l ++ drop (at + 8) s)) (sym (bytes-eight x)))
+
+-- ---- all bytes or-ed
+pub one-more : (s : List ℕ) (i a : ℕ) → i < length s → eqb a 0 ≡ allZero (take i s) → eqb (bitOr a (getD s i 0)) 0 ≡ allZero (take (i + 1) s)
+one-more s i a h e = rw (add-one, take-suc s i 0 h, zero-append, and-true, zero-or, e)
+
+pub all-seen : (s : List ℕ) (i a : ℕ) → length s ≤ i → eqb a 0 ≡ allZero (take i s) → eqb a 0 ≡ allZero s
+all-seen s i a h e = e ∙ ap allZero (take-all i s h)
+
+-- ---- every byte zero
+zeros-next : (i : ℕ) → replicate {A = ℕ} (suc i) 0 ≡ replicate i 0 ++ (0 ∷ [])
+zeros-next zero = refl
+zeros-next (suc i) = ap (λ (l : List ℕ). 0 ∷ l) (zeros-next i)
+
+pub zero-more : (s : List ℕ) (i : ℕ) → i < length s → take i s ≡ replicate i 0 → take (i + 1) (set s i 0) ≡ replicate (i + 1) 0
+zero-more s i h e = rw (add-one, take-suc-set s i 0 h, e, zeros-next i)
+
+pub all-zeroed : (s s₀ : List ℕ) (i : ℕ) → length s ≡ length s₀ → length s ≤ i → i ≤ length s₀ → take i s ≡ replicate i 0 → s ≡ replicate (length s₀) 0
+all-zeroed s s₀ i l h g e =
+    let q : i ≡ length s₀ = omega arith in
+    sym (take-all i s h) ∙ e ∙ ap (λ (n : ℕ). replicate {A = ℕ} n 0) q
 
 -- ---- a bit set by `or`
 or-one : (n : ℕ) → bitOr n 1 ≡ n / 2 * 2 + 1

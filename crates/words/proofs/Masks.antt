@@ -8,7 +8,7 @@ use native.Mathlib.Nat.{mod-lt, zero-mul, zero-add}
 use lib.Dec.{eqb}
 use borrow.Author.Tests.{ne-eqb}
 use lib.Pow.{pow-pos, split}
-use lib.Bits.{bitAnd, bitOr, and-block, and-mask, and-zero-r, or-add-and, and-le-l, and-le-r}
+use lib.Bits.{bitAnd, bitOr, and-block, and-mask, and-zero-r, or-add-and, and-le-r}
 use Rattle.rules.specs.Bits.{isOn, one}
 use Rattle.rules.proofs.BitLaws.{odd-one}
 
@@ -29,13 +29,7 @@ module _ (k x low : ℕ) (h : low < 2 ^ k) where
   and-flag b = rw (and-split (one b), and-one (x / 2 ^ k) b, and-below)
 
 -- ---- a disjunction is 0 exactly if both sides are
-pub zero-left : (a b : ℕ) → bitOr a b ≡ 0 → a ≡ 0
-zero-left a b e = omega (arith, or-add-and a b, and-le-r a b)
-
-pub zero-right : (a b : ℕ) → bitOr a b ≡ 0 → b ≡ 0
-zero-right a b e = omega (arith, or-add-and a b, and-le-l a b)
-
 pub zero-or : (a b : ℕ) → eqb (bitOr a b) 0 ≡ (eqb a 0 && eqb b 0)
 zero-or zero b = refl
 zero-or (suc a) b =
-    rw (ne-eqb (suc a) 0 (λ e. omega arith)) (ne-eqb (bitOr (suc a) b) 0 (λ e. omega (arith, zero-left (suc a) b e)))
+    rw (ne-eqb (suc a) 0 (λ e. omega arith)) (ne-eqb (bitOr (suc a) b) 0 (λ e. omega (arith, or-add-and (suc a) b, and-le-r (suc a) b)))

@@ -1,9 +1,11 @@
 // Bytes and words of a slice, and bits of a number. In machine code a read is one load, a write one store, a bit added one `or`.
 ghost use mathlib.Core.Path.{_≡_};
 ghost use Prim.Native.Nat.{_+_, _≤_, _<_};
-ghost use lib.ListN.{length};
+ghost use lib.Dec.{eqb};
+ghost use lib.ListN.{length, replicate};
 ghost use Rattle.rules.specs.Bits.{isOn, one as oneOf, part as partOf, wordAt, wordPut};
 ghost use Rattle.rules.specs.Memory.{added};
+ghost use Rattle.rules.specs.Refusals.{allZero};
 ghost use Rattle.words.specs.Eight.{eightAt};
 
 // A byte as a number.
@@ -49,6 +51,30 @@ pub fn write_word(s: &mut [u8], at: usize, x: u64)
     s[at + 5] = (x / 0x100_0000_0000 % 256) as u8;
     s[at + 6] = (x / 0x1_0000_0000_0000 % 256) as u8;
     s[at + 7] = (x / 0x100_0000_0000_0000 % 256) as u8;
+}
+
+// All bytes or-ed together, with no early exit: 0 exactly if all are.
+pub fn gather(s: &[u8]) -> u8
+    ensures { λ r. ⌜ eqb r 0 ≡ allZero (now (s .entry)) ⌝ }
+{
+    let mut acc: u8 = 0;
+    let mut i = 0;
+    while i < s.len() {
+        acc = acc | s[i];
+        i += 1;
+    }
+    acc
+}
+
+// Every byte is zero.
+pub fn clear(s: &mut [u8])
+    ensures { λ _. ⌜ now (s .exit) ≡ replicate (length (now (s .entry))) 0 ⌝ }
+{
+    let mut at = 0;
+    while at < s.len() {
+        s[at] = 0;
+        at += 1;
+    }
 }
 
 // Bit k of the byte at a place is set.

@@ -1,6 +1,7 @@
 -- One slot a turn: before turn i the slots before i are done (`Swept`).
 use Prim.Native.Nat.{_-_}
 use borrow.Author.Needs.{needs}
+use Rattle.drops.proofs.DropLaws.{image-dropped}
 use Rattle.drops.proofs.DropWays.{Swept, swept-none, swept-more, swept-all}
 use Rattle.drops.proofs.drop_from.Statement.{statement}
 use Rattle.drops.proofs.drop_from.Tie as tie
@@ -12,28 +13,10 @@ abbrev μ-loop : tie.MeasureT-loop
 μ-loop image₀ first end mask want own whose i₀ image i = end - i
 
 loop-holds : tie.Need-loop-holds Inv-loop μ-loop
-loop-holds c = search (swept-none, needs)
-
-mul-a : tie.Need-mul-a Inv-loop μ-loop
-mul-a c = search needs
-
-add-a : tie.Need-add-a Inv-loop μ-loop
-add-a c = search needs
-
-add-e : tie.Need-add-e Inv-loop μ-loop
-add-e c = search needs
-
-sub-drop-slot : tie.Need-sub-drop-slot Inv-loop μ-loop
-sub-drop-slot c = search needs
-
-part-drop-slot-start : tie.Need-part-drop-slot-start Inv-loop μ-loop
-part-drop-slot-start c = search needs
-
-part-drop-slot-end : tie.Need-part-drop-slot-end Inv-loop μ-loop
-part-drop-slot-end c = search needs
+loop-holds c = search swept-none
 
 drop-slot-requires : tie.Need-drop-slot-requires Inv-loop μ-loop
-drop-slot-requires c κs = search needs
+drop-slot-requires c κs = (search image-dropped, search needs)
 
 add-i : tie.Need-add-i Inv-loop μ-loop
 add-i c = search needs
@@ -42,13 +25,13 @@ loop-less : tie.Need-loop-less Inv-loop μ-loop
 loop-less c = search needs
 
 loop-again : tie.Need-loop-again Inv-loop μ-loop
-loop-again c = record { low = search needs; high = search needs; size = search needs; done = search (swept-more, needs) }
+loop-again c = record { low = search needs; high = search needs; size = search needs; done = search swept-more }
 
 same-length : tie.Need-same-length Inv-loop μ-loop
 same-length c = search needs
 
 returns : tie.Need-returns Inv-loop μ-loop
-returns c = search (swept-all, needs)
+returns c = search swept-all
 
 pub drop-from-spec : {M : Type 1} → statement M
 drop-from-spec =
@@ -57,12 +40,6 @@ drop-from-spec =
     Inv-loop
     μ-loop
     loop-holds
-    mul-a
-    add-a
-    add-e
-    sub-drop-slot
-    part-drop-slot-start
-    part-drop-slot-end
     drop-slot-requires
     add-i
     loop-less

@@ -1,4 +1,4 @@
--- A page number above a mask of the bits below it is one mask.
+-- A page number above a mask of the bits below it is one mask, and a set has four slots.
 use Rattle.drops.proofs.DropWays.{page-dropped}
 use borrow.Author.Needs.{needs}
 use Rattle.drops.proofs.drop_page.Statement.{statement}
@@ -10,17 +10,23 @@ page-number-requires c κs = search needs
 set-of-requires : tie.Need-set-of-requires
 set-of-requires c κs = search needs
 
-add-drop-in-set : tie.Need-add-drop-in-set
-add-drop-in-set c = search needs
+mul-first : tie.Need-mul-first
+mul-first c = search needs
 
-mul-drop-in-set : tie.Need-mul-drop-in-set
-mul-drop-in-set c = search needs
+add-drop-from : tie.Need-add-drop-from
+add-drop-from c = search needs
 
-add-drop-in-set-2 : tie.Need-add-drop-in-set-2
-add-drop-in-set-2 c = search needs
+add-drop-from-2 : tie.Need-add-drop-from-2
+add-drop-from-2 c = search needs
 
-drop-in-set-requires : tie.Need-drop-in-set-requires
-drop-in-set-requires c κs = search needs
+mul-drop-from : tie.Need-mul-drop-from
+mul-drop-from c = search needs
+
+add-drop-from-3 : tie.Need-add-drop-from-3
+add-drop-from-3 c = search needs
+
+drop-from-requires : tie.Need-drop-from-requires
+drop-from-requires c κs = search needs
 
 same-length : tie.Need-same-length
 same-length c = search needs
@@ -34,9 +40,11 @@ drop-page-spec =
     (tie.spec
     page-number-requires
     set-of-requires
-    add-drop-in-set
-    mul-drop-in-set
-    add-drop-in-set-2
-    drop-in-set-requires
+    mul-first
+    add-drop-from
+    add-drop-from-2
+    mul-drop-from
+    add-drop-from-3
+    drop-from-requires
     same-length
     returns)

@@ -1,17 +1,23 @@
--- Two words of zero are a slot's sixteen bytes; a slot that is not wanted, or is another's, stays.
+-- A slot that is asked for is emptied; one that is not wanted, or is another's, stays.
 use Rattle.drops.proofs.DropWays.{slot-dropped, slot-of-another, slot-unwanted}
 use borrow.Author.Needs.{needs}
 use Rattle.drops.proofs.drop_slot.Statement.{statement}
 use Rattle.drops.proofs.drop_slot.Tie as tie
 
+mul-read-word : tie.Need-mul-read-word
+mul-read-word c = search needs
+
+add-read-word : tie.Need-add-read-word
+add-read-word c = search needs
+
 read-word-requires : tie.Need-read-word-requires
 read-word-requires c κs = search needs
 
-write-word-requires : tie.Need-write-word-requires
-write-word-requires c κs = search needs
+add-empty-from : tie.Need-add-empty-from
+add-empty-from c = search needs
 
-write-word-requires-2 : tie.Need-write-word-requires-2
-write-word-requires-2 c κs = search needs
+empty-from-requires : tie.Need-empty-from-requires
+empty-from-requires c κs = search needs
 
 same-length : tie.Need-same-length
 same-length c = search needs
@@ -35,9 +41,11 @@ pub drop-slot-spec : {M : Type 1} → statement M
 drop-slot-spec =
     tie.close
     (tie.spec
+    mul-read-word
+    add-read-word
     read-word-requires
-    write-word-requires
-    write-word-requires-2
+    add-empty-from
+    empty-from-requires
     same-length
     returns
     same-length-2

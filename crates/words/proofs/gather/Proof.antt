@@ -5,9 +5,9 @@ use borrow.Author.Needs.{needs}
 use lib.Dec.{eqb}
 use lib.ListN.{length, take}
 use Rattle.rules.specs.Refusals.{allZero}
-use Rattle.refusals.proofs.Checks.{one-more, all-seen}
-use Rattle.refusals.proofs.gather.Statement.{statement}
-use Rattle.refusals.proofs.gather.Tie as tie
+use Rattle.words.proofs.Laws.{one-more, all-seen}
+use Rattle.words.proofs.gather.Statement.{statement}
+use Rattle.words.proofs.gather.Tie as tie
 
 abbrev Inv-loop : tie.InvT-loop
 Inv-loop s acc₀ i₀ acc i = (i ≤ length s) × (eqb acc 0 ≡ allZero (take i s))

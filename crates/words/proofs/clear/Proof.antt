@@ -3,9 +3,9 @@ use Prim.Native.Nat.{_≤_, _-_}
 use mathlib.Core.Path.{_≡_, refl}
 use borrow.Author.Needs.{needs}
 use lib.ListN.{length, take, replicate}
-use Rattle.translator.proofs.Calling.{zero-more, all-zeroed}
-use Rattle.translator.proofs.calls.clear.Statement.{statement}
-use Rattle.translator.proofs.calls.clear.Tie as tie
+use Rattle.words.proofs.Laws.{zero-more, all-zeroed}
+use Rattle.words.proofs.clear.Statement.{statement}
+use Rattle.words.proofs.clear.Tie as tie
 
 abbrev Inv-loop : tie.InvT-loop
 Inv-loop s₀ i₀ s i = (i ≤ length s₀) × ((length s ≡ length s₀) × (take i s ≡ replicate i 0))
@@ -19,8 +19,8 @@ loop-holds c = (search needs, (refl, refl))
 slice-write-s : tie.Need-slice-write-s Inv-loop μ-loop
 slice-write-s c = search needs
 
-add-i : tie.Need-add-i Inv-loop μ-loop
-add-i c = search needs
+add-at : tie.Need-add-at Inv-loop μ-loop
+add-at c = search needs
 
 loop-less : tie.Need-loop-less Inv-loop μ-loop
 loop-less c = search needs
@@ -37,4 +37,4 @@ returns c = search all-zeroed
 pub clear-spec : {M : Type 1} → statement M
 clear-spec =
     tie.close
-    (tie.spec Inv-loop μ-loop loop-holds slice-write-s add-i loop-less loop-again same-length returns)
+    (tie.spec Inv-loop μ-loop loop-holds slice-write-s add-at loop-less loop-again same-length returns)
