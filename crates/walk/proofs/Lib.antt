@@ -1,5 +1,6 @@
 pub mod Masks
-pub mod Packing
 pub mod Ways
 pub mod Steps
+pub mod Marking
+pub mod Packing
 pub mod Whole

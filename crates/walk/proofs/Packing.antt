@@ -1,112 +1,154 @@
--- A finding and its number: the number that the code makes at a page is the finding's, and the finding is read back from its number.
--- Below a page's base, a multiple of 4096, stand 2048 and its flags, level and rights, each in bits of its own; a fault's number stays below 24.
-use Prim.Native.Nat.{ℕ, _+_, _-_, _*_, _/_, _%_, _≤_}
-use mathlib.Core.Path.{_≡_, refl, ap₂, _∙_}
-use mathlib.Core.Bool.{Bool, true, false, cond, _||_}
+-- A page's number and a fault's, and what is read off them: below a page's base, a multiple of 4096, stand 2048, global, its level and what it lacks, each in
+-- bits of its own; a fault's number stays below 2048.
+use Prim.Native.Nat.{ℕ, _+_, _-_, _*_, _/_, _%_, _^_, _≤_, _<_}
+use mathlib.Core.Path.{_≡_, refl, ap, sym, _∙_}
+use mathlib.Core.Bool.{Bool, true, false, cond, _&&_, _||_, not}
 use native.Mathlib.Omega.{arith}
-use lib.Dec.{leb}
-use lib.Bits.{bitOr, or-mod}
-use borrow.Author.Tests.{le-leb, lt-leb}
-use Rattle.rules.specs.Bits.{bit, isOn, part, one}
-use Rattle.rules.specs.Sizes.{shift}
+use native.Mathlib.Nat.{div-one}
+use lib.Dec.{eqb}
+use lib.Bits.{bitAnd}
+use borrow.Author.Tests.{le-leb, lt-leb, not-false}
+use Rattle.rules.specs.Bits.{bit, isOn, one}
+use Rattle.rules.specs.Image.{wp}
 use Rattle.rules.specs.Entries.{allows}
-use Rattle.rules.specs.Walk.{End, reached, stuck, leafOf, pageIf, judged}
 use Rattle.rules.specs.declared.Control.{Control}
 use Rattle.rules.specs.declared.Access.{Access}
 use Rattle.rules.specs.declared.Rights.{Rights}
 use Rattle.rules.specs.declared.Cause.{Cause}
 use Rattle.rules.specs.declared.Cause.the-variants.{NotPresent, Reserved, Protection}
-use Rattle.rules.specs.declared.Found.{Found}
 use Rattle.rules.specs.declared.Found.the-variants.{Page, Fault}
-use Rattle.rules.proofs.BitLaws.{one-le, flag-back, on-one}
-use Rattle.walk.specs.Packed.{StandsFor, causeCode, packOf, levelIn, unpackOf, packed, rightsOf}
-use Rattle.walk.proofs.Masks.{cut, write-bit}
+use Rattle.rules.proofs.BoolLaws.{same}
+use Rattle.rules.proofs.BitLaws.{one-le, flag-back}
+use Rattle.words.proofs.Masks.{and-one, and-flag}
+use Rattle.walk.specs.Packed.{packPage, causeCode, packFault, levelIn, unpackOf, needOf}
+use Rattle.walk.proofs.Masks.{not-not}
 
--- ---- the number at a page
-or-one : (p q : Bool) → bitOr (one p) (one q) ≡ one (q || p)
-or-one true true = refl
-or-one true false = refl
-or-one false true = refl
-or-one false false = refl
+zero-off : (b : Bool) → one b ≡ 0 → b ≡ false
+zero-off true h = absurd (omega arith)
+zero-off false h = refl
 
-pub pack-page : (c : Control) (k : Access) (bad ask level at e s n : ℕ) → StandsFor c k bad ask → level ≤ 3 → part 52 (c .width) e ≡ 0
-    → packed level (part 52 (shift level) e) e s ask ≡ packOf (pageIf true k (leafOf c level at e (rightsOf s)) n)
-pack-page c k bad ask level at e s n f h z =
-    let w : ask % 2 ≡ one (k .write) = rw (f .asks) (write-bit c k) in
-    let d : bitOr (e / 64) ask % 2 ≡ one (k .write || isOn 6 e) = or-mod (e / 64) ask 1 ∙ ap₂ bitOr (on-one 6 e) w ∙ or-one (isOn 6 e) (k .write) in
-    rw (cut (c .width) (shift level) e (f .narrow) (omega (arith, f .wide)) z, d, ← on-one 8 e, ← on-one 1 s, ← on-one 2 s, ← on-one 63 s)
-
--- ---- a finding's parts, and a finding that is read back: its count follows from its level
-abbrev pub foundLevel : Found → ℕ
-foundLevel (Page base level r global dirty n) = level
-foundLevel (Fault cause level n) = level
-
-abbrev pub foundBase : Found → ℕ
-foundBase (Page base level r global dirty n) = base
-foundBase (Fault cause level n) = 0
-
-abbrev pub foundCount : Found → ℕ
-foundCount (Page base level r global dirty n) = n
-foundCount (Fault cause level n) = n
-
-pub pack-count : (c : Control) (k : Access) (w : End) (m n : ℕ) → packOf (judged c k w m) ≡ packOf (judged c k w n)
-pack-count c k (reached p) m n = go (allows c k (p .rights))
-  where
-    go : (b : Bool) → packOf (pageIf b k p m) ≡ packOf (pageIf b k p n)
-    go true = refl
-    go false = refl
-pack-count c k (stuck cause level) m n = refl
+dirty-split : (w d : Bool) → one (not d) ≡ one (w && not d) + one (not (w || d))
+dirty-split true true = refl
+dirty-split true false = refl
+dirty-split false true = refl
+dirty-split false false = refl
 
 -- ---- a page
-module _ (base level n : ℕ) (r : Rights) (g d : Bool) where
+module _ (base level : ℕ) (r : Rights) (g d a : Bool) where
   abbrev number : ℕ
-  number = packOf (Page base level r g d n)
+  number = packPage base level r g d a
 
-  pub found-page : leb 2048 (packOf (Page base level r g d n)) ≡ true
-  found-page = le-leb 2048 number (omega arith)
+  pub page-high : 2048 ≤ packPage base level r g d a
+  page-high = omega arith
 
-  flags : (one g ≤ 1) × (one d ≤ 1) × (one (r .user) ≤ 1) × (one (r .writable) ≤ 1) × (one (r .executable) ≤ 1)
-  flags = (one-le g, one-le d, one-le (r .user), one-le (r .writable), one-le (r .executable))
+  flags : (one g ≤ 1) × (one (not d) ≤ 1) × (one (not a) ≤ 1) × (one (not (r .user)) ≤ 1) × (one (not (r .writable)) ≤ 1) × (one (not (r .executable)) ≤ 1)
+  flags = (one-le g, one-le (not d), one-le (not a), one-le (not (r .user)), one-le (not (r .writable)), one-le (not (r .executable)))
 
   module _ (h : level ≤ 7) (b : base % 4096 ≡ 0) where
-    page-level : number / 8 % 8 ≡ level
+    pub page-level : levelIn (packPage base level r g d a) ≡ level
     page-level = omega (arith, flags)
 
-    page-back : n ≡ 5 - level → unpackOf number ≡ Page base level r g d n
-    page-back m =
-        let e : number / 4096 * 4096 ≡ base = omega (arith, flags) in
-        rw (
-          found-page,
-          e,
-          page-level,
-          flag-back (r .writable) (bit 1 number) (omega (arith, flags)),
-          flag-back (r .user) (bit 2 number) (omega (arith, flags)),
-          flag-back (r .executable) (bit 0 number) (omega (arith, flags)),
-          flag-back g (bit 8 number) (omega (arith, flags)),
-          flag-back d (bit 6 number) (omega (arith, flags)),
-          m,
-        )
+    page-base : number / 4096 * 4096 ≡ base
+    page-base = omega (arith, flags)
+
+    lacks-write : isOn 0 number ≡ not (r .writable)
+    lacks-write = flag-back (not (r .writable)) (bit 0 number) (omega (arith, flags))
+
+    lacks-user : isOn 1 number ≡ not (r .user)
+    lacks-user = flag-back (not (r .user)) (bit 1 number) (omega (arith, flags))
+
+    lacks-fetch : isOn 2 number ≡ not (r .executable)
+    lacks-fetch = flag-back (not (r .executable)) (bit 2 number) (omega (arith, flags))
+
+    lacks-dirty : isOn 3 number ≡ not d
+    lacks-dirty = flag-back (not d) (bit 3 number) (omega (arith, flags))
+
+    lacks-accessed : isOn 4 number ≡ not a
+    lacks-accessed = flag-back (not a) (bit 4 number) (omega (arith, flags))
+
+    is-global : isOn 8 number ≡ g
+    is-global = flag-back g (bit 8 number) (omega (arith, flags))
+
+    pub page-back : (n : ℕ) → n ≡ 5 - level → unpackOf (packPage base level r g d a) ≡ Page base level r g d n
+    page-back n m =
+        rw (le-leb 2048 number page-high, page-base, page-level, lacks-write, lacks-user, lacks-fetch, lacks-dirty, is-global, m, not-not (r .writable), not-not (r .user), not-not (r .executable), not-not d)
+
+    -- what an access needs and the page lacks: rights, dirty, accessed
+    module _ (c : Control) (k : Access) where
+      abbrev no-fetch : Bool
+      no-fetch = k .fetch && not (r .executable)
+
+      abbrev no-user : Bool
+      no-user = k .user && not (r .user)
+
+      abbrev no-write : Bool
+      no-write = k .write && (k .user || wp (c .flags)) && not (r .writable)
+
+      abbrev barred : ℕ
+      barred = one no-fetch * 4 + (one no-user * 2 + one no-write)
+
+      lacks-are : bitAnd number (needOf c k) ≡ one (not a) * 16 + (one (k .write && not d) * 8 + barred)
+      lacks-are =
+          let w : Bool = k .write && (k .user || wp (c .flags)) in
+          let low₁ : ℕ = one (k .user) * 2 ^ 1 + one w in
+          let low₂ : ℕ = one (k .fetch) * 2 ^ 2 + low₁ in
+          let low₃ : ℕ = one (k .write) * 2 ^ 3 + low₂ in
+          let e : needOf c k ≡ one true * 2 ^ 4 + low₃ = omega arith in
+          let ones : (one w ≤ 1) × (one (k .user) ≤ 1) × (one (k .fetch) ≤ 1) × (one (k .write) ≤ 1) = (one-le w, one-le (k .user), one-le (k .fetch), one-le (k .write)) in
+          let zero : eqb (number % 2) 1 ≡ not (r .writable) = ap (λ (z : ℕ). eqb (z % 2) 1) (sym (div-one number)) ∙ lacks-write in
+          rw (
+            e,
+            and-flag 4 number low₃ (omega (arith, ones)) true,
+            and-flag 3 number low₂ (omega (arith, ones)) (k .write),
+            and-flag 2 number low₁ (omega (arith, ones)) (k .fetch),
+            and-flag 1 number (one w) (omega (arith, ones)) (k .user),
+            and-one number w,
+            zero,
+            lacks-accessed,
+            lacks-dirty,
+            lacks-fetch,
+            lacks-user,
+          )
+
+      low-bits : bitAnd number (needOf c k) % 8 ≡ barred
+      low-bits = rw lacks-are (omega (arith, one-le no-fetch, one-le no-user, one-le no-write))
+
+      pub allow-test : eqb (bitAnd (packPage base level r g d a) (needOf c k) % 8) 0 ≡ allows c k r
+      allow-test =
+          rw low-bits
+          (same 7
+          (λ f u w p x y z. eqb (one (f && not x) * 4 + (one (u && not y) * 2 + one (w && (u || p) && not z))) 0)
+          (λ f u w p x y z. (not u || y) && (not w || z || (not u && not p)) && (not f || x))
+          refl (k .fetch) (k .user) (k .write) (wp (c .flags)) (r .executable) (r .user) (r .writable))
+
+      -- nothing is lacking
+      pub has-marks : bitAnd (packPage base level r g d a) (needOf c k) ≡ 0 → (a ≡ true) × ((k .write && not d) ≡ false)
+      has-marks h = (not-false a (zero-off (not a) (omega (arith, lacks-are))), zero-off (k .write && not d) (omega (arith, lacks-are)))
+
+      -- marks alone are lacking, and are then there
+      pub marks-made : bitAnd (packPage base level r g d a) (needOf c k) % 8 ≡ 0
+          → packPage base level r g d a - bitAnd (packPage base level r g d a) (needOf c k) ≡ packPage base level r g (k .write || d) true
+      marks-made h = rw lacks-are (omega (arith, low-bits, dirty-split (k .write) d))
 
 -- ---- a fault
-code : (cause : Cause) → (causeCode cause ≤ 16) × (causeCode cause % 8 ≡ 0)
-code NotPresent = omega arith
-code Reserved = omega arith
-code Protection = omega arith
+code-low : (cause : Cause) → causeCode cause ≤ 2
+code-low NotPresent = omega arith
+code-low Reserved = omega arith
+code-low Protection = omega arith
 
-cause-back : (cause : Cause) (level : ℕ) → level ≤ 7
-    → cond (leb 16 (causeCode cause + level)) Protection (cond (leb 8 (causeCode cause + level)) Reserved NotPresent) ≡ cause
-cause-back NotPresent level h = rw (lt-leb 16 (0 + level) (omega arith), lt-leb 8 (0 + level) (omega arith))
-cause-back Reserved level h = rw (lt-leb 16 (8 + level) (omega arith), le-leb 8 (8 + level) (omega arith))
-cause-back Protection level h = rw (le-leb 16 (16 + level) (omega arith))
+cause-back : (cause : Cause) → cond (eqb (causeCode cause) 0) NotPresent (cond (eqb (causeCode cause) 1) Reserved Protection) ≡ cause
+cause-back NotPresent = refl
+cause-back Reserved = refl
+cause-back Protection = refl
 
-pub found-fault : (cause : Cause) (level n : ℕ) → level ≤ 7 → leb 2048 (packOf (Fault cause level n)) ≡ false
-found-fault cause level n h = lt-leb 2048 (causeCode cause + level) (omega (arith, code cause))
+module _ (cause : Cause) (level : ℕ) (h : level ≤ 7) where
+  pub fault-low : packFault cause level < 2048
+  fault-low = omega (arith, code-low cause)
 
--- ---- both
-pub level-pack : (f : Found) → foundLevel f ≤ 7 → foundBase f % 4096 ≡ 0 → levelIn (packOf f) ≡ foundLevel f
-level-pack (Page base level r g d n) h b = rw (found-page base level n r g d) (page-level base level n r g d h b)
-level-pack (Fault cause level n) h b = rw (found-fault cause level n h) (omega (arith, code cause))
+  pub fault-level : levelIn (packFault cause level) ≡ level
+  fault-level = omega (arith, code-low cause)
 
-pub unpack-pack : (f : Found) → foundLevel f ≤ 7 → foundBase f % 4096 ≡ 0 → foundCount f ≡ 5 - foundLevel f → unpackOf (packOf f) ≡ f
-unpack-pack (Page base level r g d n) h b m = page-back base level n r g d h b m
-unpack-pack (Fault cause level n) h b m = rw (level-pack (Fault cause level n) h b, found-fault cause level n h, cause-back cause level h, m)
+  pub fault-back : (n : ℕ) → n ≡ 5 - level → unpackOf (packFault cause level) ≡ Fault cause level n
+  fault-back n m =
+      let e : packFault cause level % 32 ≡ causeCode cause = omega (arith, code-low cause) in
+      rw (lt-leb 2048 (packFault cause level) fault-low, fault-level, e, cause-back cause, m)

@@ -1,55 +1,205 @@
--- The whole walk, from the top level on: what the number that comes back says is what the rules' walk finds, its count included.
--- The count follows from the level at which the walk ended, since each level that is passed is an entry read.
-use Prim.Native.Nat.{ℕ, _+_, _*_, _%_, _^_, _≤_}
-use mathlib.Core.Path.{_≡_, refl, ap, sym, _∙_}
+-- The whole walk, from the top level on: this access is judged by the number of the page that is reached, and what the number that comes back says is what the
+-- rules' walk finds, its count included. The count follows from the level at which the walk ended, since each level that is passed is an entry read.
+use Prim.Native.Nat.{ℕ, _+_, _-_, _*_, _/_, _%_, _^_, _≤_, _<_}
+use mathlib.Core.Path.{_≡_, refl, ap, ap₂, sym, _∙_, subst}
+use mathlib.Core.Bool.{Bool, true, false, _&&_, _||_}
+use mathlib.Core.List.{List, [], _∷_}
 use native.Mathlib.Omega.{arith}
+use lib.Dec.{eqb}
+use lib.Bits.{bitAnd}
+use borrow.Author.Tests.{eq-eqb, ne-eqb, not-false}
+use Rattle.rules.specs.Bits.{isOn, one}
+use Rattle.rules.specs.Image.{wp}
 use Rattle.rules.specs.Memory.{Memory, entryAt}
-use Rattle.rules.specs.Entries.{everything}
-use Rattle.rules.specs.Walk.{End, Reach, judged, reachIn, Walked, walk}
+use Rattle.rules.specs.Entries.{everything, allows}
+use Rattle.rules.specs.Walk.{Leaf, End, reached, stuck, Reach, pageIf, judged, accessed, dirtied, marked, reachIn, Walked, walk}
 use Rattle.rules.specs.declared.Control.{Control}
 use Rattle.rules.specs.declared.Access.{Access}
+use Rattle.rules.specs.declared.Cause.the-variants.{Protection}
 use Rattle.rules.specs.declared.Found.{Found}
-use Rattle.rules.proofs.WalkLaws.{endLevel, ended, is-leaf, leaf-base, found-cases}
-use Rattle.walk.specs.Packed.{Ready, badOf, askOf, packOf, levelIn, unpackOf, Did, Down}
-use Rattle.walk.proofs.Packing.{foundLevel, foundBase, foundCount, pack-count, level-pack, unpack-pack}
+use Rattle.rules.proofs.BoolLaws.{and-left, and-right}
+use Rattle.rules.proofs.BitLaws.{one-le}
+use Rattle.rules.proofs.WalkLaws.{endLevel, ended, end-low, IsLeaf, is-leaf, leaf-base}
+use Rattle.rules.proofs.Alike.{AllOf}
+use Rattle.rules.proofs.Grown.{eights}
+use Rattle.rules.proofs.Marks.{Marked, LeafOn, marked-same}
+use Rattle.walk.specs.Packed.{Ready, barsOf, packPage, packFault, packEnd, packReach, allAccessed, packFound, levelIn, unpackOf, needOf, bitsOf, MarkedDown, Did, Settled, Down}
+use Rattle.walk.proofs.Packing.{page-high, page-level, page-back, allow-test, has-marks, marks-made, fault-low, fault-level, fault-back}
 
--- ---- what is judged keeps the end's level and base, and the count
-module _ (c : Control) (k : Access) (n : ℕ) (w : End) where
-  level-of : foundLevel (judged c k w n) ≡ endLevel w
-  level-of = found-cases c k n (λ f. foundLevel f ≡ endLevel w) w (λ p e g. sym (ap endLevel e)) (λ cause. refl)
+abbrev endBase : End → ℕ
+endBase (reached p) = p .base
+endBase (stuck cause level) = 0
 
-  count-of : foundCount (judged c k w n) ≡ n
-  count-of = found-cases c k n (λ f. foundCount f ≡ n) w (λ p e g. refl) (λ cause. refl)
+-- ---- a number from 2048 on is a page's
+module _ (mem : Memory) (c : Control) (a n : ℕ) where
+  abbrev all : Bool
+  all = allAccessed (entryAt mem) (reachIn mem c a .path)
 
-module _ (mem mem′ : Memory) (c : Control) (k : Access) (a bad ask n : ℕ) (ready : Ready c mem) (bads : bad ≡ badOf c) (asks : ask ≡ askOf c k)
-    (down : Down mem mem′ (a * 2 ^ 16 % 2 ^ 64) 4 (c .root) 0xFFFFFFFFFFFFFFFF bad ask n) where
+  record Paged : Type 0 where
+    leaf : Leaf
+    ends : reachIn mem c a .end ≡ reached leaf
+    number : n ≡ packEnd (reached leaf) all
+
+  paged : 2048 ≤ n → n ≡ packReach true (entryAt mem) (reachIn mem c a) → Paged
+  paged h q = go (reachIn mem c a .end) refl
+    where
+      go : (w : End) → reachIn mem c a .end ≡ w → Paged
+      go (reached p) e = record { leaf = p; ends = e; number = rw e at q }
+      go (stuck cause level) e =
+          let f : n ≡ packFault cause level = rw e at q in
+          absurd (omega (arith, fault-low cause level (omega (arith, ap endLevel e, end-low (entryAt mem) c a 4 (c .root) everything (omega arith)))))
+
+-- ---- the ways out of `settle`
+all-of : (rd : ℕ → ℕ) (path : List ℕ) → allAccessed rd path ≡ true → AllOf (λ at. isOn 5 (rd at) ≡ true) path
+all-of rd [] h = tt
+all-of rd (at ∷ path) h = (and-left (isOn 5 (rd at)) _ h, all-of rd path (and-right (isOn 5 (rd at)) _ h))
+
+write-bit : (c : Control) (k : Access) → needOf c k / 8 % 2 ≡ one (k .write)
+write-bit c k = omega (arith, one-le (k .write && (k .user || wp (c .flags))), one-le (k .user), one-le (k .fetch), one-le (k .write))
+
+bits-are : (w : Bool) (x : ℕ) → x ≡ one w → 32 + x * 64 ≡ bitsOf w
+bits-are true x h = rw h
+bits-are false x h = rw h
+
+module _ (mem : Memory) (root a n need : ℕ) where
+  module _ (c : Control) (k : Access) (ready : Ready c mem) (hn : need ≡ needOf c k) (s : Paged mem c a n) where
+    abbrev p : Leaf
+    p = s .leaf
+
+    is : IsLeaf (entryAt mem) c p
+    is = is-leaf mem c a p (s .ends)
+
+    low : p .level ≤ 7
+    low = omega (arith, is .high)
+
+    aligned : p .base % 4096 ≡ 0
+    aligned = leaf-base (entryAt mem) c p is
+
+    lacks : bitAnd n need ≡ bitAnd (packEnd (reached p) (all mem c a n)) (needOf c k)
+    lacks = ap₂ bitAnd (s .number) hn
+
+    allowed : eqb (bitAnd n need % 8) 0 ≡ allows c k (p .rights)
+    allowed =
+        ap (λ (x : ℕ). eqb (x % 8) 0) lacks
+        ∙ allow-test (p .base) (p .level) (p .rights) (p .global) (p .dirty) (all mem c a n) low aligned c k
+
+    level-is : n / 32 % 8 ≡ p .level
+    level-is = ap levelIn (s .number) ∙ page-level (p .base) (p .level) (p .rights) (p .global) (p .dirty) (all mem c a n) low aligned
+
+    -- marks alone are lacking, or nothing is: the page is found
+    found : bitAnd n need % 8 ≡ 0 → (mem′ : Memory) → mem′ ≡ accessed (reachIn mem c a .path) (dirtied (k .write) (p .at) mem)
+        → Did c k (reachIn mem c a) mem mem′ (n - bitAnd n need)
+    found h mem′ m =
+        let y : allows c k (p .rights) ≡ true = sym allowed ∙ eq-eqb _ 0 h in
+        let e : n - bitAnd n need ≡ packPage (p .base) (p .level) (p .rights) (p .global) (k .write || p .dirty) true =
+        ap₂ (λ (x z : ℕ). x - z) (s .number) lacks
+        ∙ marks-made (p .base) (p .level) (p .rights) (p .global) (p .dirty) (all mem c a n) low aligned c k (sym (ap (λ (x : ℕ). x % 8) lacks) ∙ h) in
+        record { number = e ∙ rw (s .ends, y); memory = m ∙ rw (s .ends, y) }
+
+    -- where nothing is, the marks that the rules' walk makes are there
+    nothing : bitAnd n need ≡ 0 → Did c k (reachIn mem c a) mem mem n
+    nothing h =
+        let (acc, kept) = has-marks (p .base) (p .level) (p .rights) (p .global) (p .dirty) (all mem c a n) low aligned c k (sym lacks ∙ h) in
+        let y : allows c k (p .rights) ≡ true = sym allowed ∙ ap (λ (x : ℕ). eqb (x % 8) 0) h in
+        let on : Marked (k .write) (reachIn mem c a) mem =
+        record {
+          path = all-of (entryAt mem) (reachIn mem c a .path) acc;
+          leaf = λ w. subst (LeafOn mem) (sym (s .ends)) (sym (is .dirty) ∙ not-false (p .dirty) (rw w at kept));
+        } in
+        let m : mem ≡ marked c k (reachIn mem c a .end) (reachIn mem c a .path) mem =
+        sym (marked-same mem (ready .whole) c k (reachIn mem c a) (eights (entryAt mem) c a 4 (c .root) everything (ready .aligned)) on) in
+        let e : n - bitAnd n need ≡ n = omega (arith, h) in
+        subst (Did c k (reachIn mem c a) mem mem) e (found (ap (λ (x : ℕ). x % 8) h) mem (rw (s .ends, y) at m))
+
+    -- a right is lacking
+    refused : (bitAnd n need % 8 ≡ 0 → ⊥) → Did c k (reachIn mem c a) mem mem (n / 32 % 8 * 32 + 2)
+    refused h =
+        let y : allows c k (p .rights) ≡ false = sym allowed ∙ ne-eqb _ 0 h in
+        record { number = ap (λ (l : ℕ). l * 32 + 2) level-is ∙ rw (s .ends, y); memory = rw (s .ends, y) }
+
+  pub way-done : bitAnd n need ≡ 0 → Settled mem mem root a n need n
+  way-done h = record { did = λ c k ready hr hn high packs. nothing c k ready hn (paged mem c a n high packs) h }
+
+  pub way-refused : (bitAnd n need % 8 ≡ 0 → ⊥) → Settled mem mem root a n need (n / 32 % 8 * 32 + 2)
+  way-refused h = record { did = λ c k ready hr hn high packs. refused c k ready hn (paged mem c a n high packs) h }
+
+  pub way-marked : bitAnd n need % 8 ≡ 0 → (mem′ : Memory)
+      → MarkedDown mem mem′ (a * 2 ^ 16 % 2 ^ 64) 4 root (n / 32 % 8) (32 + need / 8 % 2 * 64) → Settled mem mem′ root a n need (n - bitAnd n need)
+  way-marked h mem′ d =
+      record {
+        did = λ c k ready hr hn high packs.
+            let s : Paged mem c a n = paged mem c a n high packs in
+            let from : MarkedDown mem mem′ (a * 2 ^ 16 % 2 ^ 64) 4 (c .root) (n / 32 % 8) (32 + need / 8 % 2 * 64) =
+            subst (λ (b : ℕ). MarkedDown mem mem′ (a * 2 ^ 16 % 2 ^ 64) 4 b (n / 32 % 8) (32 + need / 8 % 2 * 64)) hr d in
+            found c k ready hn s h mem′
+            (from .marks (entryAt mem) c a everything (s .leaf) (k .write) (λ i h. refl) (ready .wide) (ready .narrow) (omega arith) refl (s .ends) (sym (level-is c k ready hn s))
+            (bits-are (k .write) (need / 8 % 2) (rw hn (write-bit c k))));
+      }
+
+-- ---- a finding is read back from its number, and its level
+module _ (c : Control) (k : Access) (n : ℕ) where
+  abbrev Back : Found → ℕ → Found → Type 0
+  Back f level g = (levelIn (packFound f) ≡ level) × (unpackOf (packFound f) ≡ g)
+
+  back : (w : End) → endLevel w ≤ 7 → endBase w % 4096 ≡ 0 → n ≡ 5 - endLevel w → Back (judged c k w 0) (endLevel w) (judged c k w n)
+  back (stuck cause level) h b m = (fault-level cause level h, fault-back cause level h n m)
+  back (reached p) h b m = go (allows c k (p .rights))
+    where
+      go : (y : Bool) → Back (pageIf y k p 0) (p .level) (pageIf y k p n)
+      go true = (
+        page-level (p .base) (p .level) (p .rights) (p .global) (k .write || p .dirty) true h b,
+        page-back (p .base) (p .level) (p .rights) (p .global) (k .write || p .dirty) true h b n m,
+      )
+      go false = (fault-level Protection (p .level) h, fault-back Protection (p .level) h n m)
+
+-- ---- the ways out of `walk`
+module _ (mem : Memory) (c : Control) (k : Access) (a : ℕ) where
   abbrev reaches : Reach
   reaches = reachIn mem c a
 
-  abbrev finds : Found
-  finds = judged c k (reaches .end) (reaches .read)
+  passed : endLevel (reaches .end) + reaches .read ≡ 5
+  passed = ended (entryAt mem) c a 4 (c .root) everything (omega arith)
 
-  did : Did c k reaches mem mem′ n
-  did = down .did c k a (record { wide = ready .wide; narrow = ready .narrow; bads = bads; asks = asks }) refl
+  base-low : endBase (reaches .end) % 4096 ≡ 0
+  base-low = go (reaches .end) refl
+    where
+      go : (w : End) → reaches .end ≡ w → endBase w % 4096 ≡ 0
+      go (reached p) e = leaf-base (entryAt mem) c p (is-leaf mem c a p e)
+      go (stuck cause level) e = refl
 
-  number : n ≡ packOf finds
-  number = did .number ∙ pack-count c k (reaches .end) 0 (reaches .read)
+  both : Back c k (reaches .read) (judged c k (reaches .end) 0) (endLevel (reaches .end)) (judged c k (reaches .end) (reaches .read))
+  both = back c k (reaches .read) (reaches .end) (omega (arith, passed)) base-low (omega (arith, passed))
 
-  passed : foundLevel finds + reaches .read ≡ 5
-  passed = ap (λ (l : ℕ). l + reaches .read) (level-of c k (reaches .read) (reaches .end)) ∙ ended (entryAt mem) c a 4 (c .root) everything (omega arith)
+  module _ (mem′ : Memory) (m : ℕ) (did : Did c k (reachIn mem c a) mem mem′ m) where
+    level-fits : levelIn m ≤ 5
+    level-fits = omega (arith, passed, ap levelIn (did .number) ∙ both .0)
 
-  low : foundLevel finds ≤ 7
-  low = omega (arith, passed)
+    walked : (r : Found) → r ≡ unpackOf m → _≡_ {A = Walked} (record { found = r; memory = mem′ }) (walk c k a mem)
+    walked r h = λ i. record { found = (h ∙ ap unpackOf (did .number) ∙ both .1) i; memory = did .memory i }
 
-  aligned : foundBase finds % 4096 ≡ 0
-  aligned =
-      found-cases c k (reaches .read) (λ f. foundBase f % 4096 ≡ 0) (reaches .end)
-      (λ p e g. leaf-base (entryAt mem) c p (is-leaf mem c a p e)) (λ cause. refl)
+  module _ (ready : Ready c mem) (bars n : ℕ) (bars-are : bars ≡ barsOf c) (down : Down mem (a * 2 ^ 16 % 2 ^ 64) 4 (c .root) 0 bars n) where
+    packs : n ≡ packReach true (entryAt mem) reaches
+    packs = down .finds c a (record { wide = ready .wide; narrow = ready .narrow; are = bars-are }) refl
 
-  pub level-fits : levelIn n ≤ 5
-  level-fits = omega (arith, passed, ap levelIn number ∙ level-pack finds low aligned)
+    -- stuck
+    fell : n < 2048 → Did c k reaches mem mem n
+    fell h = go (reaches .end) refl
+      where
+        go : (w : End) → reaches .end ≡ w → Did c k reaches mem mem n
+        go (stuck cause level) e = record { number = packs ∙ rw e; memory = rw e }
+        go (reached p) e =
+            let q : n ≡ packPage (p .base) (p .level) (p .rights) (p .global) (p .dirty) (allAccessed (entryAt mem) (reaches .path)) = rw e at packs in
+            absurd (omega (arith, page-high (p .base) (p .level) (p .rights) (p .global) (p .dirty) (allAccessed (entryAt mem) (reaches .path))))
 
-  pub walked : (r : Found) → r ≡ unpackOf n → _≡_ {A = Walked} (record { found = r; memory = mem′ }) (walk c k a mem)
-  walked r h =
-      let q : r ≡ finds = h ∙ ap unpackOf number ∙ unpack-pack finds low aligned (count-of c k (reaches .read) (reaches .end) ∙ omega (arith, passed)) in
-      λ i. record { found = q i; memory = did .memory i }
+    pub stuck-fits : n < 2048 → levelIn n ≤ 5
+    stuck-fits h = level-fits mem n (fell h)
+
+    pub stuck-walked : n < 2048 → (r : Found) → r ≡ unpackOf n → _≡_ {A = Walked} (record { found = r; memory = mem }) (walk c k a mem)
+    stuck-walked h = walked mem n (fell h)
+
+    module _ (high : 2048 ≤ n) (need m : ℕ) (needs-are : need ≡ needOf c k) (mem′ : Memory) (settled : Settled mem mem′ (c .root) a n need m) where
+      pub page-fits : levelIn m ≤ 5
+      page-fits = level-fits mem′ m (settled .did c k ready refl needs-are high packs)
+
+      pub page-walked : (r : Found) → r ≡ unpackOf m → _≡_ {A = Walked} (record { found = r; memory = mem′ }) (walk c k a mem)
+      page-walked = walked mem′ m (settled .did c k ready refl needs-are high packs)

@@ -2,14 +2,16 @@
 use Prim.Native.Nat.{ℕ, _+_, _-_, _*_, _/_, _%_, _^_, _≤_, _<_}
 use mathlib.Core.Path.{_≡_}
 use mathlib.Core.Bool.{Bool, true, false, cond, _&&_, _||_, not}
+use mathlib.Core.List.{List, [], _∷_}
 use lib.ListN.{length}
 use lib.Dec.{leb, eqb}
-use lib.Bits.{bitAnd, bitOr, bitXor}
+use lib.Bits.{bitAnd, bitXor}
 use Rattle.rules.specs.Bits.{isOn, part, anyOn, one}
 use Rattle.rules.specs.Sizes.{shift}
 use Rattle.rules.specs.Image.{wp, nxe}
 use Rattle.rules.specs.Memory.{Memory, entryAt, added}
-use Rattle.rules.specs.Walk.{Reach, reach, judged, dirtied, marked}
+use Rattle.rules.specs.Entries.{says}
+use Rattle.rules.specs.Walk.{Leaf, End, reached, stuck, Reach, endAt, step, reach, judged, accessed, dirtied, marked, reachIn}
 use Rattle.rules.specs.declared.Control.{Control}
 use Rattle.rules.specs.declared.Access.{Access}
 use Rattle.rules.specs.declared.Rights.{Rights}
@@ -27,104 +29,126 @@ pub record Ready (c : Control) (mem : Memory) : Type 0 where
   pub whole : length mem % 8 ≡ 0
 
 -- ---- what goes down
--- rights so far: bits 1, 2 and 63 of a conjunction of entries, in each of which bit 63 was turned over, so that a right is a set bit
-abbrev pub rightsOf : ℕ → Rights
-rightsOf s = record { writable = isOn 1 s; user = isOn 2 s; executable = isOn 63 s }
+-- an entry with P, RW, US, A and D turned over: then a bit that is set says that something is lacking, as XD does
+abbrev pub turned : ℕ → ℕ
+turned e = bitXor e 0x67
 
-abbrev pub andIn : ℕ → ℕ → ℕ
-andIn s e = bitAnd s (bitXor e 0x8000000000000000)
+-- what is lacking so far, the disjunction of such entries, leaves these rights; and bit 5 says whether each was accessed
+abbrev pub rightsOf : ℕ → Rights
+rightsOf s = record { writable = not (isOn 1 s); user = not (isOn 2 s); executable = not (isOn 63 s) }
+
+abbrev pub accessedIn : ℕ → Bool
+accessedIn s = not (isOn 5 s)
 
 -- the bits that are reserved at every level
 abbrev pub badOf : Control → ℕ
 badOf c = one (not (nxe (c .flags))) * 2 ^ 63 + (2 ^ 52 - 2 ^ (c .width))
 
--- the rights that an access needs, each where its right stands; and bit 0, for a write
-abbrev pub needOf : Control → Access → ℕ
-needOf c k = one (k .fetch) * 2 ^ 63 + (one (k .user) * 4 + one (k .write && (k .user || wp (c .flags))) * 2)
+-- a turned entry with none of these bits leads to a next table: these, bit 0 for one that is not present and bit 7 for a page
+abbrev pub barsOf : Control → ℕ
+barsOf c = badOf c + 0x81
 
-abbrev pub askOf : Control → Access → ℕ
-askOf c k = needOf c k + one (k .write)
-
-abbrev pub isAllowed : ℕ → ℕ → Bool
-isAllowed s ask = eqb (bitAnd s (ask / 2 * 2)) (ask / 2 * 2)
-
-abbrev pub isWrite : ℕ → Bool
-isWrite ask = eqb (ask % 2) 1
+pub record Bars (c : Control) (bars : ℕ) : Type 0 where
+  pub wide : 36 ≤ c .width
+  pub narrow : c .width ≤ 52
+  pub are : bars ≡ barsOf c
 
 -- the address, moved up until the index of a level stands in its nine highest bits
 abbrev pub slid : ℕ → ℕ → ℕ
 slid level a = a * 2 ^ (52 - 9 * level) % 2 ^ 64
 
--- ---- what comes back: a page from 2048 on, its base with its flags, level and rights in the low bits; else a fault, its cause and level
+-- ---- what comes back: a page from 2048 on, its base with global, level and what is lacking in the low bits, rights, dirty and accessed; else a fault, its
+-- level and cause
+abbrev pub packPage : ℕ → ℕ → Rights → Bool → Bool → Bool → ℕ
+packPage base level r global dirty accessed =
+    base
+    + (2048 + one global * 256 + level * 32
+    + (one (not (r .writable)) + one (not (r .user)) * 2 + one (not (r .executable)) * 4 + (one (not dirty) * 8 + one (not accessed) * 16)))
+
 abbrev pub causeCode : Cause → ℕ
 causeCode NotPresent = 0
-causeCode Reserved = 8
-causeCode Protection = 16
+causeCode Reserved = 1
+causeCode Protection = 2
 
-abbrev pub packOf : Found → ℕ
-packOf (Page base level r global dirty n) =
-    base + (2048 + one global * 256 + one dirty * 64 + level * 8 + (one (r .user) * 4 + one (r .writable) * 2 + one (r .executable)))
-packOf (Fault cause level n) = causeCode cause + level
+abbrev pub packFault : Cause → ℕ → ℕ
+packFault cause level = level * 32 + causeCode cause
 
-abbrev pub isFound : ℕ → Bool
-isFound n = leb 2048 n
+-- of an end, with whether each entry on the way was accessed
+abbrev pub packEnd : End → Bool → ℕ
+packEnd (reached p) accessed = packPage (p .base) (p .level) (p .rights) (p .global) (p .dirty) accessed
+packEnd (stuck cause level) accessed = packFault cause level
+
+abbrev pub allAccessed : (ℕ → ℕ) → List ℕ → Bool
+allAccessed rd [] = true
+allAccessed rd (at ∷ path) = isOn 5 (rd at) && allAccessed rd path
+
+abbrev pub packReach : Bool → (ℕ → ℕ) → Reach → ℕ
+packReach before rd w = packEnd (w .end) (before && allAccessed rd (w .path))
+
+-- of a finding, whose page lacks no accessed mark any more
+abbrev pub packFound : Found → ℕ
+packFound (Page base level r global dirty n) = packPage base level r global dirty true
+packFound (Fault cause level n) = packFault cause level
 
 -- and back again; every level that was passed is an entry read
 abbrev pub levelIn : ℕ → ℕ
-levelIn n = cond (leb 2048 n) (n / 8 % 8) (n % 8)
+levelIn n = n / 32 % 8
 
 abbrev pub unpackOf : ℕ → Found
 unpackOf n =
     cond (leb 2048 n)
-    (Page (n / 4096 * 4096) (levelIn n) (record { writable = isOn 1 n; user = isOn 2 n; executable = isOn 0 n }) (isOn 8 n) (isOn 6 n) (5 - levelIn n))
-    (Fault (cond (leb 16 n) Protection (cond (leb 8 n) Reserved NotPresent)) (levelIn n) (5 - levelIn n))
+    (Page (n / 4096 * 4096) (levelIn n) (record { writable = not (isOn 0 n); user = not (isOn 1 n); executable = not (isOn 2 n) }) (isOn 8 n) (not (isOn 3 n))
+    (5 - levelIn n))
+    (Fault (cond (eqb (n % 32) 0) NotPresent (cond (eqb (n % 32) 1) Reserved Protection)) (levelIn n) (5 - levelIn n))
 
--- ---- at the page, from the numbers
-abbrev pub packed : ℕ → ℕ → ℕ → ℕ → ℕ → ℕ
-packed level base e s ask =
-    base
-    + (2048 + e / 256 % 2 * 256 + bitOr (e / 64) ask % 2 * 64 + level * 8 + (s / 4 % 2 * 4 + s / 2 % 2 * 2 + s / 0x8000000000000000 % 2))
-
-abbrev pub numberAtLeaf : ℕ → ℕ → ℕ → ℕ → ℕ → ℕ
-numberAtLeaf level base e s ask = cond (isAllowed s ask) (packed level base e s ask) (16 + level)
-
-abbrev pub memoryAtLeaf : ℕ → ℕ → ℕ → Memory → Memory
-memoryAtLeaf at s ask mem = cond (isAllowed s ask) (added 5 at (dirtied (isWrite ask) at mem)) mem
-
-pub record AtLeaf (mem mem′ : Memory) (at e level base s ask n : ℕ) : Type 0 where
-  pub number : n ≡ numberAtLeaf level base e s ask
-  pub memory : mem′ ≡ memoryAtLeaf at s ask mem
-
--- bit 7 is set: at level 4 that is reserved, below it the page's unused bits are
+-- ---- what the code does from a level on, in the rules' terms: for whatever control and address the numbers stand for
+-- a page's entry: at level 4 its page bit is reserved, below it the page's unused bits are
 abbrev pub isReservedPage : ℕ → ℕ → Bool
-isReservedPage level e = eqb level 4 || anyOn (shift level) 13 e
+isReservedPage level t = eqb level 4 || anyOn (shift level) 13 t
 
-abbrev pub numberAtPage : ℕ → ℕ → ℕ → ℕ → ℕ
-numberAtPage level e s ask = cond (isReservedPage level e) (8 + level) (numberAtLeaf level (part 52 (shift level) e) e s ask)
+-- the walk goes no further: this is the last level, or a bit bars the way
+abbrev pub Stops : ℕ → ℕ → ℕ → Type 0
+Stops level t bars = (level ≡ 1 → ⊥) → bitAnd t bars ≡ 0 → ⊥
 
-abbrev pub memoryAtPage : ℕ → ℕ → ℕ → ℕ → ℕ → Memory → Memory
-memoryAtPage level at e s ask mem = cond (isReservedPage level e) mem (memoryAtLeaf at s ask mem)
+pub record EndsAt (c : Control) (level at e s n : ℕ) : Type 0 where
+  pub end : End
+  pub ends : (below : Reach) → step c level at e (rightsOf s) below (says c level e) ≡ endAt at end
+  pub number : n ≡ packEnd end (accessedIn s)
 
-pub record AtPage (mem mem′ : Memory) (at e level s ask n : ℕ) : Type 0 where
-  pub number : n ≡ numberAtPage level e s ask
-  pub memory : mem′ ≡ memoryAtPage level at e s ask mem
+pub record Ended (t s level bars n : ℕ) : Type 0 where
+  pub there : (c : Control) (e at : ℕ) → Bars c bars → t ≡ turned e → EndsAt c level at e s n
 
--- ---- what the code does from a level on, in the rules' terms: for whatever control, access and address the numbers stand for
-pub record StandsFor (c : Control) (k : Access) (bad ask : ℕ) : Type 0 where
-  pub wide : 36 ≤ c .width
-  pub narrow : c .width ≤ 52
-  pub bads : bad ≡ badOf c
-  pub asks : ask ≡ askOf c k
+pub record Down (mem : Memory) (x level base seen bars n : ℕ) : Type 0 where
+  pub finds : (c : Control) (a : ℕ) → Bars c bars → x ≡ slid level a
+      → n ≡ packReach (accessedIn seen) (entryAt mem) (reach (entryAt mem) c a level base (rightsOf seen))
 
+-- ---- this access
+-- the rights that it needs and the marks that it leaves, each where its lack stands in a page's number
+abbrev pub needOf : Control → Access → ℕ
+needOf c k = one (k .write && (k .user || wp (c .flags))) + one (k .user) * 2 + one (k .fetch) * 4 + one (k .write) * 8 + 16
+
+-- accessed, and dirty besides, as bits of an entry
+abbrev pub bitsOf : Bool → ℕ
+bitsOf true = 96
+bitsOf false = 32
+
+abbrev pub markedAt : Bool → ℕ → Memory → Memory
+markedAt dirty at mem = added 5 at (dirtied dirty at mem)
+
+-- a walk that ended at a page is made again, marking; memory may by then have marks that the entries it read had not, and leads the same way
+abbrev pub LeadsAlike : (ℕ → ℕ) → Memory → Type 0
+LeadsAlike rd mem = (at : ℕ) → at % 8 ≡ 0 → part 52 12 (rd at) ≡ part 52 12 (entryAt mem at)
+
+pub record MarkedDown (mem mem′ : Memory) (x level base last bits : ℕ) : Type 0 where
+  pub marks : (rd : ℕ → ℕ) (c : Control) (a : ℕ) (r : Rights) (p : Leaf) (dirty : Bool) → LeadsAlike rd mem → 36 ≤ c .width → c .width ≤ 52 → level ≤ 4
+      → x ≡ slid level a → reach rd c a level base r .end ≡ reached p → p .level ≡ last → bits ≡ bitsOf dirty
+      → mem′ ≡ accessed (reach rd c a level base r .path) (dirtied dirty (p .at) mem)
+
+-- what is found and written, of a page that is reached
 pub record Did (c : Control) (k : Access) (w : Reach) (mem mem′ : Memory) (n : ℕ) : Type 0 where
-  pub number : n ≡ packOf (judged c k (w .end) 0)
+  pub number : n ≡ packFound (judged c k (w .end) 0)
   pub memory : mem′ ≡ marked c k (w .end) (w .path) mem
 
-pub record Down (mem mem′ : Memory) (x level base seen bad ask n : ℕ) : Type 0 where
-  pub did : (c : Control) (k : Access) (a : ℕ) → StandsFor c k bad ask → x ≡ slid level a
-      → Did c k (reach (entryAt mem) c a level base (rightsOf seen)) mem mem′ n
-
--- what an entry, read earlier, tells of memory now: where it lacks bit k it stands inside, and where it has it there is nothing to add
-pub record StillTells (k e at : ℕ) (mem : Memory) : Type 0 where
-  pub lacks : isOn k e ≡ false → at < length mem
-  pub has : isOn k e ≡ true → mem ≡ added k at mem
+pub record Settled (mem mem′ : Memory) (root a n need r : ℕ) : Type 0 where
+  pub did : (c : Control) (k : Access) → Ready c mem → root ≡ c .root → need ≡ needOf c k → 2048 ≤ n
+      → n ≡ packReach true (entryAt mem) (reachIn mem c a) → Did c k (reachIn mem c a) mem mem′ r

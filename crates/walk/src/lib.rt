@@ -1,14 +1,14 @@
-// The walk over the guest's tables: one step, the same at each level, that calls itself on the next table.
+// The walk over the guest's tables, in the rules' two halves. First which page is reached: one step, the same at each level, that calls itself on the next
+// table and only reads. Then whether this access may use it; and where it may and a mark is lacking, the same steps again, adding it.
 // Inside the recursion everything is a number (specs/Packed says what each stands for), since there a struct or an enum would go through memory.
 ghost use mathlib.Core.Path.{_≡_};
+ghost use mathlib.Core.Bool.{Bool, not};
 ghost use Prim.Native.Nat.{_+_, _*_, _/_, _%_, _^_, _≤_, _<_};
-ghost use lib.Dec.{eqb};
-ghost use lib.Bits.{bitAnd};
 ghost use lib.ListN.{length};
-ghost use Rattle.rules.specs.Bits.{part};
-ghost use Rattle.rules.specs.Memory.{entryAt, added};
-ghost use Rattle.rules.specs.Walk.{dirtied, walk as walkOf};
-ghost use Rattle.walk.specs.Packed.{Ready, andIn, badOf, askOf, isAllowed, isWrite, packed, AtLeaf, isReservedPage, AtPage, levelIn, unpackOf, Down, StillTells};
+ghost use Rattle.rules.specs.Bits.{isOn, part};
+ghost use Rattle.rules.specs.Memory.{entryAt};
+ghost use Rattle.rules.specs.Walk.{walk as walkOf};
+ghost use Rattle.walk.specs.Packed.{Ready, bitsOf, markedAt, isReservedPage, rightsOf, accessedIn, packPage, Stops, Ended, Down, MarkedDown, barsOf, needOf, Settled, levelIn, unpackOf};
 use rules::Access;
 use rules::Cause;
 use rules::Control;
@@ -17,6 +17,10 @@ use rules::Rights;
 
 // What an entry outside memory reads as.
 const OUTSIDE: u64 = 0xFFFF_FFFF_FFFF_FFFF;
+
+// P, RW, US, A and D: an entry is looked at with these turned over. Then each bit that is set, as XD always did, takes a right or a mark away, and what is
+// lacking after several entries is their `or`.
+const TURNED: u64 = 0x67;
 
 // The entry at a place.
 fn entry(mem: &[u8], at: usize) -> u64
@@ -30,96 +34,57 @@ fn entry(mem: &[u8], at: usize) -> u64
     }
 }
 
-// Bit k is added to an entry; a store is made only where the entry, as it was read, lacks it.
-fn mark(mem: &mut [u8], at: usize, e: u64, k: u8)
-    requires { ⌜ (k < 8) × StillTells k e at (now mem) ⌝ }
-    ensures { λ _. ⌜ now (mem .exit) ≡ added k at (now (mem .entry)) ⌝ }
+// Accessed (32) is added to the entry at a place, or accessed and dirty (96).
+fn mark(mem: &mut [u8], at: usize, bits: u8)
+    ensures { λ _. ⌜ ((dirty : Bool) → bits ≡ bitsOf dirty → now (mem .exit) ≡ markedAt dirty at (now (mem .entry))) ⌝ }
 {
-    if words::is_on(k as u64, e) {
+    if mem.len() <= at {
         return;
     }
-    words::add_bit(mem, at, k);
+    mem[at] = mem[at] | bits;
 }
 
-// A write marks the page's entry as dirty.
-fn dirty(mem: &mut [u8], at: usize, e: u64, ask: u64)
-    requires { ⌜ StillTells 6 e at (now mem) ⌝ }
-    ensures { λ _. ⌜ now (mem .exit) ≡ dirtied (isWrite ask) at (now (mem .entry)) ⌝ }
+// A page's entry has a reserved bit set: at level 4 the page bit is one, below it the bits that its size leaves unused are, of which level 1 has none.
+fn is_reserved_page(level: u64, t: u64) -> bool
+    requires { ⌜ level ≤ 4 ⌝ }
+    ensures { λ r. ⌜ r ≡ isReservedPage level t ⌝ }
 {
-    if ask % 2 == 1 {
-        mark(mem, at, e, 6);
-    }
+    let unused = t % (1 << (3 + 9 * level)) / 0x2000;
+    (level == 4) | !(unused == 0)
 }
 
-// The rights so far and an entry's.
-fn and_in(s: u64, e: u64) -> u64
-    ensures { λ r. ⌜ r ≡ andIn s e ⌝ }
-{
-    s & (e ^ 0x8000_0000_0000_0000)
-}
-
-fn is_clear(e: u64, bad: u64) -> bool
-    ensures { λ r. ⌜ r ≡ eqb (bitAnd e bad) 0 ⌝ }
-{
-    e & bad == 0
-}
-
-fn is_allowed(s: u64, ask: u64) -> bool
-    ensures { λ r. ⌜ r ≡ isAllowed s ask ⌝ }
-{
-    let need = ask / 2 * 2;
-    s & need == need
-}
-
-fn is_reserved_page(level: u64, e: u64) -> bool
-    requires { ⌜ (2 ≤ level) × (level ≤ 4) ⌝ }
-    ensures { λ r. ⌜ r ≡ isReservedPage level e ⌝ }
-{
-    let p = words::part(3 + 9 * level, 13, e);
-    (level == 4) | !(p == 0)
-}
-
-fn pack(level: u64, base: u64, e: u64, s: u64, ask: u64) -> u64
+// The page that a walk reached as a number, from its entry, what is lacking, its level and its base.
+fn page(t: u64, s: u64, level: u64, base: u64) -> u64
     requires { ⌜ (level ≤ 4) × (base < 2 ^ 52) ⌝ }
-    ensures { λ r. ⌜ r ≡ packed level base e s ask ⌝ }
+    ensures { λ r. ⌜ r ≡ packPage base level (rightsOf s) (isOn 8 t) (not (isOn 6 t)) (accessedIn s) ⌝ }
 {
-    base
-        + (2048
-            + e / 256 % 2 * 256
-            + ((e / 64) | ask) % 2 * 64
-            + level * 8
-            + (s / 4 % 2 * 4 + s / 2 % 2 * 2 + s / 0x8000_0000_0000_0000 % 2))
+    let rights = s / 2 % 2 + s / 4 % 2 * 2 + s / 0x8000_0000_0000_0000 % 2 * 4;
+    let marks = t / 64 % 2 * 8 + s / 32 % 2 * 16;
+    base + (2048 + t / 256 % 2 * 256 + level * 32 + (rights + marks))
 }
 
-// The next table, or a small page: bits 51 down to 12.
+// The walk ends at an entry that leads to no table: at its page or, below 2048, stuck.
+fn end(t: u64, s: u64, level: u64, bars: u64) -> u64
+    requires { ⌜ (0 < level) × ((level ≤ 4) × ((0x80 ≤ bars) × Stops level t bars)) ⌝ }
+    ensures { λ r. ⌜ Ended t s level bars r ⌝ }
+{
+    if t & (bars - 0x80) == 0 {
+        if is_reserved_page(level, t) {
+            return level * 32 + 1;
+        }
+        return page(t, s, level, words::part(52, 3 + 9 * level, t));
+    }
+    if t % 2 == 1 {
+        return level * 32;
+    }
+    level * 32 + 1
+}
+
+// The next table: bits 51 down to 12.
 fn next(e: u64) -> u64
     ensures { λ r. ⌜ (r ≡ part 52 12 e) × ((r < 2 ^ 52) × (r % 8 ≡ 0)) ⌝ }
 {
     e / 4096 % 0x100_0000_0000 * 4096
-}
-
-// The page and its base are known: rights, marks, and the finding as a number.
-fn leaf(mem: &mut [u8], at: usize, e: u64, level: u64, base: u64, s: u64, ask: u64) -> u64
-    requires { ⌜ (level ≤ 4) × ((base < 2 ^ 52) × ((at % 8 ≡ 0) × ((length (now mem) % 8 ≡ 0) × (e ≡ entryAt (now mem) at)))) ⌝ }
-    ensures { λ r. ⌜ AtLeaf (now (mem .entry)) (now (mem .exit)) at e level base s ask r ⌝ }
-{
-    if is_allowed(s, ask) {
-        dirty(mem, at, e, ask);
-        mark(mem, at, e, 5);
-        return pack(level, base, e, s, ask);
-    }
-    16 + level
-}
-
-// The entry ends the walk above level 1: it is a large page, unless one of its bits may not be set.
-fn page(mem: &mut [u8], at: usize, e: u64, level: u64, s: u64, ask: u64) -> u64
-    requires { ⌜ (2 ≤ level) × ((level ≤ 4) × ((at % 8 ≡ 0) × ((length (now mem) % 8 ≡ 0) × (e ≡ entryAt (now mem) at)))) ⌝ }
-    ensures { λ r. ⌜ AtPage (now (mem .entry)) (now (mem .exit)) at e level s ask r ⌝ }
-{
-    if is_reserved_page(level, e) {
-        return 8 + level;
-    }
-    leaf(mem, at, e, level, words::part(52, 3 + 9 * level, e), s, ask)
 }
 
 // The index stands in the top nine bits of x.
@@ -130,34 +95,75 @@ fn place(base: u64, x: u64) -> usize
     (base + 8 * (x / 0x80_0000_0000_0000)) as usize
 }
 
-// The walk from a level on: the table at base, the rights so far, what is reserved, what is asked.
-fn down(mem: &mut [u8], base: u64, x: u64, level: u64, bad: u64, seen: u64, ask: u64) -> u64
-    requires { ⌜ (0 < level) × ((level ≤ 4) × ((base < 2 ^ 52) × ((base % 8 ≡ 0) × (length (now mem) % 8 ≡ 0)))) ⌝ }
-    ensures { λ r. ⌜ Down (now (mem .entry)) (now (mem .exit)) x level base seen bad ask r ⌝ }
+// Which page is reached from a level on: the table at base, the bits that bar the way to a next one, what was lacking so far.
+fn down(mem: &[u8], base: u64, x: u64, level: u64, bars: u64, seen: u64) -> u64
+    requires { ⌜ (0 < level) × ((level ≤ 4) × ((base < 2 ^ 52) × ((base % 8 ≡ 0) × ((length (now mem) % 8 ≡ 0) × (0x80 ≤ bars))))) ⌝ }
+    ensures { λ r. ⌜ Down (now (mem .entry)) x level base seen bars r ⌝ }
+{
+    let t = entry(mem, place(base, x)) ^ TURNED;
+    let s = seen | t;
+    if level == 1 {
+        return end(t, s, level, bars);
+    }
+    if t & bars == 0 {
+        return down(mem, next(t), x << 9, level - 1, bars, s);
+    }
+    end(t, s, level, bars)
+}
+
+// The same entries once more, down to the page's level: each is marked as accessed, and the page's as is given.
+fn mark_down(mem: &mut [u8], base: u64, x: u64, level: u64, last: u64, bits: u8)
+    requires { ⌜ (base < 2 ^ 52) × ((base % 8 ≡ 0) × (length (now mem) % 8 ≡ 0)) ⌝ }
+    ensures { λ _. ⌜ MarkedDown (now (mem .entry)) (now (mem .exit)) x level base last bits ⌝ }
 {
     let at = place(base, x);
+    if level <= last {
+        mark(mem, at, bits);
+        return;
+    }
     let e = entry(mem, at);
-    if e % 2 == 0 {
-        return level;
+    mark(mem, at, 32);
+    mark_down(mem, next(e), x << 9, level - 1, last, bits);
+}
+
+// The bits of a turned entry that bar the way to a next table: not present, a page, reserved.
+fn bars_of(c: Control) -> u64
+    requires { ⌜ c .width ≤ 52 ⌝ }
+    ensures { λ r. ⌜ r ≡ barsOf c ⌝ }
+{
+    let bars = 0x10_0000_0000_0081 - (1 << c.width);
+    if words::is_on(4, c.flags) {
+        return bars;
     }
-    if is_clear(e, bad) {
-        let s = and_in(seen, e);
-        if level == 1 {
-            return leaf(mem, at, e, 1, next(e), s, ask);
-        }
-        if e / 128 % 2 == 1 {
-            return page(mem, at, e, level, s, ask);
-        }
-        if e / 32 % 2 == 0 {
-            let r = down(mem, next(e), x << 9, level - 1, bad, s, ask);
-            if 2048 <= r {
-                words::add_bit(mem, at, 5);
-            }
-            return r;
-        }
-        return down(mem, next(e), x << 9, level - 1, bad, s, ask);
+    bars + 0x8000_0000_0000_0000
+}
+
+// What an access needs of a page.
+fn need_of(c: Control, k: Access) -> u64
+    ensures { λ r. ⌜ r ≡ needOf c k ⌝ }
+{
+    words::one(k.write & (k.user | words::is_on(1, c.flags)))
+        + words::one(k.user) * 2
+        + words::one(k.fetch) * 4
+        + words::one(k.write) * 8
+        + 16
+}
+
+// Whether this access may use the page that was reached; if so, it lacks no mark afterwards.
+fn settle(mem: &mut [u8], root: u64, a: u64, n: u64, need: u64) -> u64
+    requires { ⌜ (root < 2 ^ 52) × ((root % 8 ≡ 0) × (length (now mem) % 8 ≡ 0)) ⌝ }
+    ensures { λ r. ⌜ Settled (now (mem .entry)) (now (mem .exit)) root a n need r ⌝ }
+{
+    let lacks = n & need;
+    if lacks == 0 {
+        return n;
     }
-    8 + level
+    if lacks % 8 != 0 {
+        return n / 32 % 8 * 32 + 2;
+    }
+    let bits = (32 + need / 8 % 2 * 64) as u8;
+    mark_down(mem, root, a << 16, 4, n / 32 % 8, bits);
+    n - lacks
 }
 
 // A finding as its number says it.
@@ -165,31 +171,30 @@ fn unpack(n: u64) -> Found
     requires { ⌜ levelIn n ≤ 5 ⌝ }
     ensures { λ r. ⌜ r ≡ unpackOf n ⌝ }
 {
+    let level = n / 32 % 8;
+    let read = 5 - level;
     if 2048 <= n {
-        let level = n / 8 % 8;
         return Found::Page {
             base: n / 4096 * 4096,
             level,
             rights: Rights {
-                writable: words::is_on(1, n),
-                user: words::is_on(2, n),
-                executable: words::is_on(0, n),
+                writable: !words::is_on(0, n),
+                user: !words::is_on(1, n),
+                executable: !words::is_on(2, n),
             },
             global: words::is_on(8, n),
-            dirty: words::is_on(6, n),
-            read: 5 - level,
+            dirty: !words::is_on(3, n),
+            read,
         };
     }
-    let level = n % 8;
-    let read = 5 - level;
-    if 16 <= n {
+    if n % 32 == 0 {
         return Found::Fault {
-            cause: Cause::Protection,
+            cause: Cause::NotPresent,
             level,
             read,
         };
     }
-    if 8 <= n {
+    if n % 32 == 1 {
         return Found::Fault {
             cause: Cause::Reserved,
             level,
@@ -197,26 +202,10 @@ fn unpack(n: u64) -> Found
         };
     }
     Found::Fault {
-        cause: Cause::NotPresent,
+        cause: Cause::Protection,
         level,
         read,
     }
-}
-
-fn bad_of(c: Control) -> u64
-    requires { ⌜ c .width ≤ 52 ⌝ }
-    ensures { λ r. ⌜ r ≡ badOf c ⌝ }
-{
-    words::one(!words::is_on(4, c.flags)) * 0x8000_0000_0000_0000
-        + (0x10_0000_0000_0000 - (1 << c.width))
-}
-
-fn ask_of(c: Control, k: Access) -> u64
-    ensures { λ r. ⌜ r ≡ askOf c k ⌝ }
-{
-    words::one(k.fetch) * 0x8000_0000_0000_0000
-        + (words::one(k.user) * 4 + words::one(k.write & (k.user | words::is_on(1, c.flags))) * 2)
-        + words::one(k.write)
 }
 
 // The walk of an address: what it finds, with the accessed and dirty bits added to memory.
@@ -224,14 +213,9 @@ pub fn walk(mem: &mut [u8], c: Control, k: Access, a: u64) -> Found
     requires { ⌜ Ready c (now mem) ⌝ }
     ensures { λ r. ⌜ record { found = r; memory = now (mem .exit) } ≡ walkOf c k a (now (mem .entry)) ⌝ }
 {
-    let n = down(
-        mem,
-        c.root,
-        a << 16,
-        4,
-        bad_of(c),
-        0xFFFF_FFFF_FFFF_FFFF,
-        ask_of(c, k),
-    );
-    unpack(n)
+    let n = down(mem, c.root, a << 16, 4, bars_of(c), 0);
+    if n < 2048 {
+        return unpack(n);
+    }
+    unpack(settle(mem, c.root, a, n, need_of(c, k)))
 }

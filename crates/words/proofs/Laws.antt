@@ -1,19 +1,18 @@
 -- What the code computes, in the rules' names: eight bytes added up are their word, eight stores put a word, an `or` over all bytes is 0 if each is, stores to
--- all bytes leave nothing else, an `or` with one bit sets it, and shifts and a remainder cut out a part.
+-- all bytes leave nothing else, and shifts and a remainder cut out a part.
 use Prim.Native.Nat.{ℕ, zero, suc, _+_, _-_, _*_, _/_, _%_, _^_, _≤_, _<_}
-use mathlib.Core.Path.{_≡_, refl, ap, ap₂, sym, _∙_}
+use mathlib.Core.Path.{_≡_, refl, ap, sym, _∙_}
 use mathlib.Core.Bool.{and-true}
 use mathlib.Core.List.{List, [], _∷_, _++_, append-assoc}
 use native.Mathlib.Omega.{arith}
 use native.Mathlib.Numerals.{add-one}
-use native.Mathlib.Nat.{mod-lt, max-eq-right, le-of-suc-le-suc, one-mul, add-zero, add-assoc, div-div-eq-div-mul}
+use native.Mathlib.Nat.{mod-lt, one-mul, add-zero, add-assoc, div-div-eq-div-mul}
 use lib.ListN.{length, getD, take, drop, set, replicate}
 use lib.Seq.{sets-eq, getD-drop, drop-drop, take-suc, take-suc-set, take-all}
 use lib.Dec.{eqb}
-use lib.Pow.{field, pow-pos, split, shl-exact}
-use lib.Bits.{bitOr, or-block, or-step, or-zero-r}
-use Rattle.rules.specs.Bits.{part, withBit, word, wordAt, bytesOf, wordPut}
-use Rattle.rules.specs.Memory.{Memory, added}
+use lib.Pow.{field, pow-pos, shl-exact}
+use lib.Bits.{bitOr}
+use Rattle.rules.specs.Bits.{part, word, wordAt, bytesOf, wordPut}
 use Rattle.rules.specs.Refusals.{allZero}
 use Rattle.rules.proofs.WordLaws.{zero-append}
 use Rattle.words.specs.Eight.{eightAt}
@@ -91,30 +90,10 @@ all-zeroed s s₀ i l h g e =
     let q : i ≡ length s₀ = omega arith in
     sym (take-all i s h) ∙ e ∙ ap (λ (n : ℕ). replicate {A = ℕ} n 0) q
 
--- ---- a bit set by `or`
-or-one : (n : ℕ) → bitOr n 1 ≡ n / 2 * 2 + 1
-or-one n = or-step n 1 ∙ ap₂ (λ (x y : ℕ). x * 2 + y) (or-zero-r (n / 2)) (max-eq-right (le-of-suc-le-suc (mod-lt n (omega arith))))
-
-odd : (q : ℕ) → q / 2 * 2 + 1 ≡ q + (1 - q % 2)
-odd q = omega arith
-
-shared : (q c p r n : ℕ) → q * p + r ≡ n → (q + c) * p + r ≡ n + c * p
-shared q c p r n h = omega arith
-
-or-bit : (k n : ℕ) → bitOr n (2 ^ k) ≡ withBit k n
-or-bit k n =
-    ap₂ (λ (x y : ℕ). bitOr x y) (sym (split n k)) (sym (add-zero (1 * 2 ^ k) ∙ one-mul (2 ^ k)))
-    ∙ or-block k (n / 2 ^ k) 1 (n % 2 ^ k) 0 (mod-lt n (pow-pos k)) (pow-pos k)
-    ∙ ap₂ (λ (x y : ℕ). x * 2 ^ k + y) (or-one (n / 2 ^ k) ∙ odd (n / 2 ^ k)) (or-zero-r (n % 2 ^ k))
-    ∙ shared (n / 2 ^ k) (1 - n / 2 ^ k % 2) (2 ^ k) (n % 2 ^ k) n (split n k)
-
+-- ---- a part cut out by shifts
 pub one-shl : (k w : ℕ) → k < w → (1 * 2 ^ k) % 2 ^ w ≡ 2 ^ k
 one-shl k w h = shl-exact {a = 1} 1 k w (omega arith) (omega arith) ∙ one-mul (2 ^ k)
 
-pub put-bit : (k at : ℕ) (mem : Memory) → k < 8 → set mem at (bitOr (getD mem at 0) ((1 * 2 ^ k) % 2 ^ 8)) ≡ added k at mem
-put-bit k at mem h = ap (set mem at) (ap (bitOr (getD mem at 0)) (one-shl k 8 h) ∙ or-bit k (getD mem at 0))
-
--- ---- a part cut out by shifts
 pub part-shifts : (h l x : ℕ) → l ≤ h → h < 64 → (x % ((1 * 2 ^ h) % 2 ^ 64) / 2 ^ l * 2 ^ l) % 2 ^ 64 ≡ part h l x
 part-shifts h l x g k =
     let q : h - l + l ≡ h = omega arith in

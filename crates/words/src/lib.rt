@@ -1,10 +1,9 @@
-// Bytes and words of a slice, and bits of a number. In machine code a read is one load, a write one store, a bit added one `or`.
+// Bytes and words of a slice, and bits of a number. In machine code a read is one load, a write one store.
 ghost use mathlib.Core.Path.{_≡_};
 ghost use Prim.Native.Nat.{_+_, _≤_, _<_};
 ghost use lib.Dec.{eqb};
 ghost use lib.ListN.{length, replicate};
 ghost use Rattle.rules.specs.Bits.{isOn, one as oneOf, part as partOf, wordAt, wordPut};
-ghost use Rattle.rules.specs.Memory.{added};
 ghost use Rattle.rules.specs.Refusals.{allZero};
 ghost use Rattle.words.specs.Eight.{eightAt};
 
@@ -75,14 +74,6 @@ pub fn clear(s: &mut [u8])
         s[at] = 0;
         at += 1;
     }
-}
-
-// Bit k of the byte at a place is set.
-pub fn add_bit(s: &mut [u8], at: usize, k: u8)
-    requires { ⌜ (at < length (now s)) × (k < 8) ⌝ }
-    ensures { λ _. ⌜ now (s .exit) ≡ added k at (now (s .entry)) ⌝ }
-{
-    s[at] = s[at] | (1u8 << k);
 }
 
 // A flag as a number.

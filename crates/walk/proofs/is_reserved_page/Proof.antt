@@ -1,20 +1,23 @@
--- The part that is cut out is the one that the definition names.
-use Rattle.walk.proofs.Ways.{reserved-page-test}
+-- What is left below a page's length from bit 13 on is what the definition names.
+use Rattle.walk.proofs.Ways.{shl-pos, reserved-page-test}
 use borrow.Author.Needs.{needs}
 use Rattle.walk.proofs.is_reserved_page.Statement.{statement}
 use Rattle.walk.proofs.is_reserved_page.Tie as tie
 
-mul-part : tie.Need-mul-part
-mul-part c = search needs
+mul-unused : tie.Need-mul-unused
+mul-unused c = search needs
 
-add-part : tie.Need-add-part
-add-part c = search needs
+add-unused : tie.Need-add-unused
+add-unused c = search needs
 
-part-requires : tie.Need-part-requires
-part-requires c κs = search needs
+shl-unused : tie.Need-shl-unused
+shl-unused c = search needs
+
+rem-unused : tie.Need-rem-unused
+rem-unused c = search (shl-pos, needs)
 
 returns : tie.Need-returns
 returns c = search reserved-page-test
 
 pub is-reserved-page-spec : {M : Type 1} → statement M
-is-reserved-page-spec = tie.close (tie.spec mul-part add-part part-requires returns)
+is-reserved-page-spec = tie.close (tie.spec mul-unused add-unused shl-unused rem-unused returns)

@@ -1,8 +1,11 @@
 -- A way for each kind of number.
-use Rattle.walk.proofs.Ways.{page-level, fault-level, unpack-page, unpack-protection, unpack-reserved, unpack-absent}
+use Rattle.walk.proofs.Ways.{unpack-page, unpack-absent, unpack-reserved, unpack-protection}
 use borrow.Author.Needs.{needs}
 use Rattle.walk.proofs.unpack.Statement.{statement}
 use Rattle.walk.proofs.unpack.Tie as tie
+
+sub-read : tie.Need-sub-read
+sub-read c = search needs
 
 mul-t7 : tie.Need-mul-t7
 mul-t7 c = search needs
@@ -22,37 +25,30 @@ is-on-requires-4 c κs = search needs
 is-on-requires-5 : tie.Need-is-on-requires-5
 is-on-requires-5 c κs = search needs
 
-sub-t14 : tie.Need-sub-t14
-sub-t14 c = search page-level
-
 returns : tie.Need-returns
 returns c = search unpack-page
 
-sub-read : tie.Need-sub-read
-sub-read c = search fault-level
-
 returns-2 : tie.Need-returns-2
-returns-2 c = search unpack-protection
+returns-2 c = search unpack-absent
 
 returns-3 : tie.Need-returns-3
 returns-3 c = search unpack-reserved
 
 returns-4 : tie.Need-returns-4
-returns-4 c = search unpack-absent
+returns-4 c = search unpack-protection
 
 pub unpack-spec : {M : Type 1} → statement M
 unpack-spec =
     tie.close
     (tie.spec
+    sub-read
     mul-t7
     is-on-requires
     is-on-requires-2
     is-on-requires-3
     is-on-requires-4
     is-on-requires-5
-    sub-t14
     returns
-    sub-read
     returns-2
     returns-3
     returns-4)
