@@ -2,7 +2,7 @@
 use Prim.Native.Nat.{ℕ, _+_, _-_, _*_, _/_, _%_, _≤_, _<_}
 use mathlib.Core.Path.{_≡_, refl, ap, ap₂, sym, _∙_}
 use mathlib.Core.Bool.{Bool, true, false, _&&_, _||_, and-true, and-false, or-true, and-or-distrib-right}
-use mathlib.Core.List.{List, [], _∷_, _++_, List·Memᴰ, List·Memᴰ·head, List·Memᴰ·tail}
+use mathlib.Core.List.{List, _++_, List·Memᴰ, List·Memᴰ·head, List·Memᴰ·tail}
 use native.Mathlib.Omega.{arith}
 use lib.ListN.{length, take, drop, replicate, length-drop, take-append-drop}
 use lib.Seq.{length-take-le, take-take}
@@ -15,7 +15,8 @@ use Rattle.rules.specs.Image.{isHeld, isGlobal, pcidIn, pageIn, IsImage}
 use Rattle.rules.specs.Buffer.{contains, matches}
 use Rattle.rules.specs.Refusals.{allZero}
 use Rattle.rules.specs.declared.Size.{Size}
-use Rattle.rules.proofs.BoolLaws.{same, refuted, or-left, or-right, and-left, and-right}
+use Rattle.rules.proofs.BoolLaws.{same, refuted, or-left, or-right}
+use Rattle.rules.proofs.ImageLaws.{zeros}
 use Rattle.rules.proofs.PlaceLaws.{tag-at}
 use Rattle.rules.proofs.SizeLaws.{in-ways}
 use Rattle.sets.specs.Ways.{tagIn, anyHeld, isMasked}
@@ -89,11 +90,6 @@ module _ (b : List ℕ) (l mask want own whose : ℕ) (q : IsImage b) where
       rw e at (w .done)
 
 -- ---- is_bare
-zeros : (xs : List ℕ) → allZero xs ≡ true → xs ≡ replicate (length xs) 0
-zeros [] h = refl
-zeros (x ∷ xs) h =
-    ap₂ (λ (y : ℕ) (ys : List ℕ). y ∷ ys) (eqb-true x 0 (and-left (eqb x 0) (allZero xs) h)) (zeros xs (and-right (eqb x 0) (allZero xs) h))
-
 module _ (b : List ℕ) (l : ℕ) (n : length b ≡ 2048) (h : l ≤ 80) where
   abbrev block : List ℕ
   block = take 320 (drop (32 + l * 16) b)

@@ -62,7 +62,7 @@ needed-by p (suc (suc (suc (suc (suc (suc k)))))) h = absurd (omega arith)
 pub needed-is : (f k : ℕ) → k ≤ 5 → (0x6B2480 + f / 2 % 2 * 16) / 2 ^ (4 * k) % 16 ≡ neededOf f (accessOf k)
 needed-is f k h = ap (λ (x : ℕ). (0x6B2480 + x * 16) / 2 ^ (4 * k) % 16) (on-one 1 f) ∙ needed-by (wp f) k h
 
-has-bits : (d : ℕ) (w x u t : Bool)
+pub has-bits : (d : ℕ) (w x u t : Bool)
     → bitAnd d (one w * 8 + (one x * 4 + (one u * 2 + one t))) ≡ one (w && isOn 3 d) * 8 + (one (x && isOn 2 d) * 4 + (one (u && isOn 1 d) * 2 + one (t && isOn 0 d)))
 has-bits d w x u t =
     rw (

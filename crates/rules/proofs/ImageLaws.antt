@@ -37,7 +37,7 @@ zeros-at zero i = refl
 zeros-at (suc n) zero = refl
 zeros-at (suc n) (suc i) = zeros-at n i
 
-zeros : (xs : List ℕ) → allZero xs ≡ true → xs ≡ replicate (length xs) 0
+pub zeros : (xs : List ℕ) → allZero xs ≡ true → xs ≡ replicate (length xs) 0
 zeros [] h = refl
 zeros (x ∷ xs) h =
     let b : (eqb x 0 ≡ true) × (allZero xs ≡ true) = and-eq-true-iff (eqb x 0) (allZero xs) .0 h in

@@ -1,3 +1,3 @@
-// What looking up, filling and dropping share: the page sizes, and the tags of a set's four ways.
+// What looking up, filling and dropping share: the page sizes, and whether a set holds anything.
 pub mod size; // size.rt: the three page sizes, a type for each
-pub mod tags; // tags.rt: the tags of a set's four ways together
+pub mod tags; // tags.rt: whether one of a set's four ways is held

@@ -1,4 +1,4 @@
-// The tags of a set's four ways together.
+// The tags of a set's four ways, read together.
 ghost use mathlib.Core.Path.{_≡_};
 ghost use lib.ListN.{length};
 ghost use Rattle.rules.specs.Sizes.{Is, ways};

@@ -27,7 +27,7 @@ use Rattle.rules.proofs.SizeLaws.{size-of, level-at, base-lt, base-low, length-
 use Rattle.rules.proofs.SlotLaws.{nothing-dropped}
 use Rattle.rules.proofs.WalkLaws.{IsLeaf, is-leaf, leaf-lt, found-cases}
 use Rattle.rules.proofs.PlaceLaws.{width-at, flags-at, cr3-at, datum-at}
-use Rattle.walk.specs.Packed.{Ready}
+use Rattle.walk.specs.Packed.{Ready, Walks}
 use Rattle.buffer.specs.declared.look.Place.{Place}
 use Rattle.buffer.specs.declared.look.Place.the-variants.{At, Nowhere}
 use Rattle.buffer.specs.Look.{hitOf, Looks}
@@ -35,7 +35,7 @@ use Rattle.buffer.specs.Fill.{filledAt}
 use Rattle.rules.proofs.RefusalLaws.{Given, given, fit-image}
 use Rattle.drops.specs.Drops.{droppedIn}
 use Rattle.drops.proofs.DropLaws.{image-dropped, says-dropped}
-use Rattle.numbers.specs.Needs.{IsPcid}
+use Rattle.numbers.specs.Needs.{IsPcid, neededOf}
 use Rattle.translator.specs.Contract.{Translates, Usable, Encodes, missed, InRange, Finishes}
 
 -- ---- what a walk goes by
@@ -50,24 +50,26 @@ pub control-is : (b : List ℕ) (w f v n p : ℕ) → w ≡ wordAt b 0 → f ≡
 control-is b w f v n p hw hf hv hn sp =
     rw (← sp .current) (rw (width-at b, flags-at b, cr3-at b, ← hw, ← hf, ← hv, ← hn))
 
-pub walk-ready : (b : List ℕ) (mem : Memory) (c : Control) → Usable b → length mem % 8 ≡ 0 → c ≡ control (decode b) → Ready c mem
-walk-ready b mem c u h e =
-    rw e
-    (record {
-      wide = u .wide;
-      narrow = u .narrow;
-      low = base-lt 1 (decode b .width) (decode b .cr3) (u .narrow) (omega arith);
-      aligned = omega (arith, base-low 1 (decode b .width) (decode b .cr3) (omega arith));
+pub walk-ready : (b : List ℕ) (mem : Memory) (c : Control) (t n : ℕ) → Usable b → length mem % 8 ≡ 0 → c ≡ control (decode b)
+    → n ≡ neededOf (c .flags) (accessOf t) → Ready c n mem
+walk-ready b mem c t n u h e q =
+    record {
+      wide = rw e (u .wide);
+      narrow = rw e (u .narrow);
+      low = rw e (base-lt 1 (decode b .width) (decode b .cr3) (u .narrow) (omega arith));
+      aligned = rw e (omega (arith, base-low 1 (decode b .width) (decode b .cr3) (omega arith)));
       whole = h;
-    })
+      access = accessOf t;
+      needs = q;
+    }
 
 -- ---- what a walk finds is in range
-pub found-fits : (b : List ℕ) (c : Control) (k : Access) (a : ℕ) (mem mem′ : Memory) (f : Found) → Usable b → c ≡ control (decode b)
-    → _≡_ {A = Walked} (record { found = f; memory = mem′ }) (walk c k a mem) → InRange f
-found-fits b c k a mem mem′ f u e w =
+pub found-fits : (b : List ℕ) (c : Control) (t n a : ℕ) (mem mem′ : Memory) (f : Found) → Usable b → c ≡ control (decode b)
+    → n ≡ neededOf (c .flags) (accessOf t) → Walks c n a mem mem′ f → InRange f
+found-fits b c t n a mem mem′ f u e q w =
     let narrow : c .width ≤ 52 = rw e (u .narrow) in
-    let q : f ≡ walk c k a mem .found = ap (λ (x : Walked). x .found) w in
-    subst InRange (sym q)
+    let k : Access = accessOf t in
+    subst InRange (sym (ap (λ (x : Walked). x .found) (w .walks k q)))
     (found-cases c k (reachIn mem c a .read) InRange (reachIn mem c a .end)
     (λ p d g. let l : IsLeaf (entryAt mem) c p = is-leaf mem c a p d in (leaf-lt (entryAt mem) c p l narrow, (l .low, l .high))) (λ cause. tt))
 
@@ -100,12 +102,13 @@ pub finish-fault : (f : Found) (cause : Cause) (level n m : ℕ) (b : List ℕ) 
     → ((c : Control) → m ≡ code c k cause) → Finishes b b k a f (PageFault cause level m n)
 finish-fault f cause level n m b k a e u h = record { image = rw e (sym (u .says)); answer = λ c. rw (e, ← h c) }
 
-pub misses : (b b′ : List ℕ) (mem mem′ : Memory) (c : Control) (t : ℕ) (k : Access) (a : ℕ) (f : Found) (r : Answer) → c ≡ control (decode b)
-    → k ≡ accessOf t → _≡_ {A = Walked} (record { found = f; memory = mem′ }) (walk c k a mem) → Finishes b b′ k a f r
+pub misses : (b b′ : List ℕ) (mem mem′ : Memory) (c : Control) (t n : ℕ) (k : Access) (a : ℕ) (f : Found) (r : Answer) → c ≡ control (decode b)
+    → k ≡ accessOf t → n ≡ neededOf (c .flags) (accessOf t) → Walks c n a mem mem′ f → Finishes b b′ k a f r
     → Encodes (missed (decode b) mem (accessOf t) a) b′ mem′ r
-misses b b′ mem mem′ c t k a f r e y w h =
+misses b b′ mem mem′ c t n k a f r e y n-is w h =
     subst (λ (x : Access). Encodes (missed (decode b) mem x a) b′ mem′ r) y
-    (let v : _≡_ {A = Walked} (record { found = f; memory = mem′ }) (walk (control (decode b)) k a mem) = w ∙ ap (λ (x : Control). walk x k a mem) e in
+    (let v : _≡_ {A = Walked} (record { found = f; memory = mem′ }) (walk (control (decode b)) k a mem) =
+    w .walks k (n-is ∙ ap (neededOf (c .flags)) (sym y)) ∙ ap (λ (x : Control). walk x k a mem) e in
     let q : f ≡ walk (control (decode b)) k a mem .found = ap (λ (x : Walked). x .found) v in
     record {
       answer = h .answer (control (decode b)) ∙ ap (answerOf (control (decode b)) k a) q;

@@ -94,7 +94,8 @@ fn missed(image: &mut [u8], mem: &mut [u8], pcid: u64, kind: u64, a: u64) -> Ans
 {
     let k = numbers::access_of(kind);
     let c = control_of(image, pcid);
-    let f = walk::walk(mem, c, k, a);
+    let need = numbers::needed(c.flags, kind);
+    let f = walk::walk(mem, c, need, a);
     finish(image, pcid, k, a, f)
 }
 

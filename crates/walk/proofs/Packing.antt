@@ -1,12 +1,11 @@
 -- A page's number and a fault's, and what is read off them: below a page's base, a multiple of 4096, stand 2048, global, its level and what it lacks, each in
 -- bits of its own; a fault's number stays below 2048.
 use Prim.Native.Nat.{ℕ, _+_, _-_, _*_, _/_, _%_, _^_, _≤_, _<_}
-use mathlib.Core.Path.{_≡_, refl, ap, sym, _∙_}
+use mathlib.Core.Path.{_≡_, refl}
 use mathlib.Core.Bool.{Bool, true, false, cond, _&&_, _||_, not}
 use native.Mathlib.Omega.{arith}
-use native.Mathlib.Nat.{div-one}
 use lib.Dec.{eqb}
-use lib.Bits.{bitAnd}
+use lib.Bits.{bitAnd, bitOr, or-shifted-r}
 use borrow.Author.Tests.{le-leb, lt-leb, not-false}
 use Rattle.rules.specs.Bits.{bit, isOn, one}
 use Rattle.rules.specs.Image.{wp}
@@ -19,8 +18,10 @@ use Rattle.rules.specs.declared.Cause.the-variants.{NotPresent, Reserved, Prote
 use Rattle.rules.specs.declared.Found.the-variants.{Page, Fault}
 use Rattle.rules.proofs.BoolLaws.{same}
 use Rattle.rules.proofs.BitLaws.{one-le, flag-back}
-use Rattle.words.proofs.Masks.{and-one, and-flag}
-use Rattle.walk.specs.Packed.{packPage, causeCode, packFault, levelIn, unpackOf, needOf}
+use Rattle.words.proofs.Masks.{and-flag}
+use Rattle.numbers.specs.Needs.{neededOf}
+use Rattle.numbers.proofs.Laws.{has-bits}
+use Rattle.walk.specs.Packed.{packPage, causeCode, packFault, levelIn, unpackOf}
 use Rattle.walk.proofs.Masks.{not-not}
 
 zero-off : (b : Bool) → one b ≡ 0 → b ≡ false
@@ -87,33 +88,28 @@ module _ (base level : ℕ) (r : Rights) (g d a : Bool) where
       abbrev barred : ℕ
       barred = one no-fetch * 4 + (one no-user * 2 + one no-write)
 
-      lacks-are : bitAnd number (needOf c k) ≡ one (not a) * 16 + (one (k .write && not d) * 8 + barred)
+      abbrev needs : ℕ
+      needs = bitOr (neededOf (c .flags) k) 16
+
+      lacks-are : bitAnd number needs ≡ one (not a) * 16 + (one (k .write && not d) * 8 + barred)
       lacks-are =
           let w : Bool = k .write && (k .user || wp (c .flags)) in
-          let low₁ : ℕ = one (k .user) * 2 ^ 1 + one w in
-          let low₂ : ℕ = one (k .fetch) * 2 ^ 2 + low₁ in
-          let low₃ : ℕ = one (k .write) * 2 ^ 3 + low₂ in
-          let e : needOf c k ≡ one true * 2 ^ 4 + low₃ = omega arith in
-          let ones : (one w ≤ 1) × (one (k .user) ≤ 1) × (one (k .fetch) ≤ 1) × (one (k .write) ≤ 1) = (one-le w, one-le (k .user), one-le (k .fetch), one-le (k .write)) in
-          let zero : eqb (number % 2) 1 ≡ not (r .writable) = ap (λ (z : ℕ). eqb (z % 2) 1) (sym (div-one number)) ∙ lacks-write in
+          let low : neededOf (c .flags) k < 2 ^ 4 = omega (arith, one-le w, one-le (k .user), one-le (k .fetch), one-le (k .write)) in
           rw (
-            e,
-            and-flag 4 number low₃ (omega (arith, ones)) true,
-            and-flag 3 number low₂ (omega (arith, ones)) (k .write),
-            and-flag 2 number low₁ (omega (arith, ones)) (k .fetch),
-            and-flag 1 number (one w) (omega (arith, ones)) (k .user),
-            and-one number w,
-            zero,
+            or-shifted-r 1 4 (neededOf (c .flags) k) low,
+            and-flag 4 number (neededOf (c .flags) k) low true,
+            has-bits number (k .write) (k .fetch) (k .user) w,
             lacks-accessed,
             lacks-dirty,
             lacks-fetch,
             lacks-user,
+            lacks-write,
           )
 
-      low-bits : bitAnd number (needOf c k) % 8 ≡ barred
+      low-bits : bitAnd number needs % 8 ≡ barred
       low-bits = rw lacks-are (omega (arith, one-le no-fetch, one-le no-user, one-le no-write))
 
-      pub allow-test : eqb (bitAnd (packPage base level r g d a) (needOf c k) % 8) 0 ≡ allows c k r
+      pub allow-test : eqb (bitAnd (packPage base level r g d a) (bitOr (neededOf (c .flags) k) 16) % 8) 0 ≡ allows c k r
       allow-test =
           rw low-bits
           (same 7
@@ -122,12 +118,12 @@ module _ (base level : ℕ) (r : Rights) (g d a : Bool) where
           refl (k .fetch) (k .user) (k .write) (wp (c .flags)) (r .executable) (r .user) (r .writable))
 
       -- nothing is lacking
-      pub has-marks : bitAnd (packPage base level r g d a) (needOf c k) ≡ 0 → (a ≡ true) × ((k .write && not d) ≡ false)
+      pub has-marks : bitAnd (packPage base level r g d a) (bitOr (neededOf (c .flags) k) 16) ≡ 0 → (a ≡ true) × ((k .write && not d) ≡ false)
       has-marks h = (not-false a (zero-off (not a) (omega (arith, lacks-are))), zero-off (k .write && not d) (omega (arith, lacks-are)))
 
       -- marks alone are lacking, and are then there
-      pub marks-made : bitAnd (packPage base level r g d a) (needOf c k) % 8 ≡ 0
-          → packPage base level r g d a - bitAnd (packPage base level r g d a) (needOf c k) ≡ packPage base level r g (k .write || d) true
+      pub marks-made : bitAnd (packPage base level r g d a) (bitOr (neededOf (c .flags) k) 16) % 8 ≡ 0
+          → packPage base level r g d a - bitAnd (packPage base level r g d a) (bitOr (neededOf (c .flags) k) 16) ≡ packPage base level r g (k .write || d) true
       marks-made h = rw lacks-are (omega (arith, low-bits, dirty-split (k .write) d))
 
 -- ---- a fault

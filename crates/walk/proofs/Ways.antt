@@ -1,7 +1,7 @@
 -- The ways through the walk's smaller functions: what each return of the code has to show, from the tests on its way.
 use Prim.Native.Nat.{ℕ, zero, suc, _+_, _-_, _*_, _/_, _%_, _^_, _≤_, _<_}
 use mathlib.Core.Path.{_≡_, refl, ap, sym, _∙_}
-use mathlib.Core.Bool.{Bool, true, false, _&&_, _||_, not}
+use mathlib.Core.Bool.{Bool, true, false, _||_, not}
 use native.Mathlib.Omega.{arith}
 use native.Mathlib.Nat.{mod-lt, mod-one}
 use native.Mathlib.Decide.{decLt}
@@ -13,13 +13,12 @@ use Rattle.rules.specs.Bits.{isOn, wordAt, part, one}
 use Rattle.rules.specs.Image.{nxe}
 use Rattle.rules.specs.Memory.{Memory, entryAt}
 use Rattle.rules.specs.declared.Control.{Control}
-use Rattle.rules.specs.declared.Access.{Access}
 use Rattle.rules.specs.declared.Cause.the-variants.{NotPresent, Reserved, Protection}
 use Rattle.rules.specs.declared.Found.the-variants.{Page, Fault}
 use Rattle.rules.proofs.BitLaws.{on-one}
 use Rattle.rules.proofs.MemoryLaws.{entry-inside, entry-outside}
 use Rattle.words.proofs.Laws.{one-shl}
-use Rattle.walk.specs.Packed.{rightsOf, accessedIn, barsOf, packPage, unpackOf, isReservedPage, needOf}
+use Rattle.walk.specs.Packed.{rightsOf, accessedIn, barsOf, packPage, unpackOf, isReservedPage}
 use Rattle.walk.proofs.Masks.{not-not}
 
 -- ---- entry
@@ -76,11 +75,6 @@ module _ (c : Control) (b : Bool) (narrow : c .width ≤ 52) (nx : b ≡ nxe (c 
 
   pub bars-off : b ≡ false → 0x10000000000081 - 1 * 2 ^ (c .width) % 2 ^ 64 + 0x8000000000000000 ≡ barsOf c
   bars-off t = rw (← nx, t, shl) (omega (arith, pow-mono narrow))
-
--- ---- need_of
-pub needed : (c : Control) (k : Access) (w u f d : ℕ) (b : Bool) → b ≡ isOn 1 (c .flags) → w ≡ one (k .write && (k .user || b)) → u ≡ one (k .user)
-    → f ≡ one (k .fetch) → d ≡ one (k .write) → w + u * 2 + f * 4 + d * 8 + 16 ≡ needOf c k
-needed c k w u f d b hb hw hu hf hd = rw (hw, hu, hf, hd, hb)
 
 -- ---- unpack
 pub unpack-page : (n : ℕ) (w u x g d : Bool) → 2048 ≤ n → w ≡ isOn 0 n → u ≡ isOn 1 n → x ≡ isOn 2 n → g ≡ isOn 8 n → d ≡ isOn 3 n

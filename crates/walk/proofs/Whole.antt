@@ -6,7 +6,7 @@ use mathlib.Core.Bool.{Bool, true, false, _&&_, _||_}
 use mathlib.Core.List.{List, [], _∷_}
 use native.Mathlib.Omega.{arith}
 use lib.Dec.{eqb}
-use lib.Bits.{bitAnd}
+use lib.Bits.{bitAnd, bitOr}
 use borrow.Author.Tests.{eq-eqb, ne-eqb, not-false}
 use Rattle.rules.specs.Bits.{isOn, one}
 use Rattle.rules.specs.Image.{wp}
@@ -23,7 +23,8 @@ use Rattle.rules.proofs.WalkLaws.{endLevel, ended, end-low, IsLeaf, is-leaf, le
 use Rattle.rules.proofs.Alike.{AllOf}
 use Rattle.rules.proofs.Grown.{eights}
 use Rattle.rules.proofs.Marks.{Marked, LeafOn, marked-same}
-use Rattle.walk.specs.Packed.{Ready, barsOf, packPage, packFault, packEnd, packReach, allAccessed, packFound, levelIn, unpackOf, needOf, bitsOf, MarkedDown, Did, Settled, Down}
+use Rattle.numbers.specs.Needs.{neededOf}
+use Rattle.walk.specs.Packed.{Ready, barsOf, packPage, packFault, packEnd, packReach, allAccessed, packFound, levelIn, unpackOf, bitsOf, MarkedDown, Did, Settled, Down, Walks}
 use Rattle.walk.proofs.Packing.{page-high, page-level, page-back, allow-test, has-marks, marks-made, fault-low, fault-level, fault-back}
 
 abbrev endBase : End → ℕ
@@ -54,7 +55,7 @@ all-of : (rd : ℕ → ℕ) (path : List ℕ) → allAccessed rd path ≡ true �
 all-of rd [] h = tt
 all-of rd (at ∷ path) h = (and-left (isOn 5 (rd at)) _ h, all-of rd path (and-right (isOn 5 (rd at)) _ h))
 
-write-bit : (c : Control) (k : Access) → needOf c k / 8 % 2 ≡ one (k .write)
+write-bit : (c : Control) (k : Access) → neededOf (c .flags) k / 8 % 2 ≡ one (k .write)
 write-bit c k = omega (arith, one-le (k .write && (k .user || wp (c .flags))), one-le (k .user), one-le (k .fetch), one-le (k .write))
 
 bits-are : (w : Bool) (x : ℕ) → x ≡ one w → 32 + x * 64 ≡ bitsOf w
@@ -62,7 +63,7 @@ bits-are true x h = rw h
 bits-are false x h = rw h
 
 module _ (mem : Memory) (root a n need : ℕ) where
-  module _ (c : Control) (k : Access) (ready : Ready c mem) (hn : need ≡ needOf c k) (s : Paged mem c a n) where
+  module _ (c : Control) (k : Access) (ready : Ready c need mem) (hn : need ≡ neededOf (c .flags) k) (s : Paged mem c a n) where
     abbrev p : Leaf
     p = s .leaf
 
@@ -75,10 +76,10 @@ module _ (mem : Memory) (root a n need : ℕ) where
     aligned : p .base % 4096 ≡ 0
     aligned = leaf-base (entryAt mem) c p is
 
-    lacks : bitAnd n need ≡ bitAnd (packEnd (reached p) (all mem c a n)) (needOf c k)
-    lacks = ap₂ bitAnd (s .number) hn
+    lacks : bitAnd n (bitOr need 16) ≡ bitAnd (packEnd (reached p) (all mem c a n)) (bitOr (neededOf (c .flags) k) 16)
+    lacks = ap₂ bitAnd (s .number) (ap (λ (z : ℕ). bitOr z 16) hn)
 
-    allowed : eqb (bitAnd n need % 8) 0 ≡ allows c k (p .rights)
+    allowed : eqb (bitAnd n (bitOr need 16) % 8) 0 ≡ allows c k (p .rights)
     allowed =
         ap (λ (x : ℕ). eqb (x % 8) 0) lacks
         ∙ allow-test (p .base) (p .level) (p .rights) (p .global) (p .dirty) (all mem c a n) low aligned c k
@@ -87,17 +88,17 @@ module _ (mem : Memory) (root a n need : ℕ) where
     level-is = ap levelIn (s .number) ∙ page-level (p .base) (p .level) (p .rights) (p .global) (p .dirty) (all mem c a n) low aligned
 
     -- marks alone are lacking, or nothing is: the page is found
-    found : bitAnd n need % 8 ≡ 0 → (mem′ : Memory) → mem′ ≡ accessed (reachIn mem c a .path) (dirtied (k .write) (p .at) mem)
-        → Did c k (reachIn mem c a) mem mem′ (n - bitAnd n need)
+    found : bitAnd n (bitOr need 16) % 8 ≡ 0 → (mem′ : Memory) → mem′ ≡ accessed (reachIn mem c a .path) (dirtied (k .write) (p .at) mem)
+        → Did c k (reachIn mem c a) mem mem′ (n - bitAnd n (bitOr need 16))
     found h mem′ m =
         let y : allows c k (p .rights) ≡ true = sym allowed ∙ eq-eqb _ 0 h in
-        let e : n - bitAnd n need ≡ packPage (p .base) (p .level) (p .rights) (p .global) (k .write || p .dirty) true =
+        let e : n - bitAnd n (bitOr need 16) ≡ packPage (p .base) (p .level) (p .rights) (p .global) (k .write || p .dirty) true =
         ap₂ (λ (x z : ℕ). x - z) (s .number) lacks
         ∙ marks-made (p .base) (p .level) (p .rights) (p .global) (p .dirty) (all mem c a n) low aligned c k (sym (ap (λ (x : ℕ). x % 8) lacks) ∙ h) in
         record { number = e ∙ rw (s .ends, y); memory = m ∙ rw (s .ends, y) }
 
     -- where nothing is, the marks that the rules' walk makes are there
-    nothing : bitAnd n need ≡ 0 → Did c k (reachIn mem c a) mem mem n
+    nothing : bitAnd n (bitOr need 16) ≡ 0 → Did c k (reachIn mem c a) mem mem n
     nothing h =
         let (acc, kept) = has-marks (p .base) (p .level) (p .rights) (p .global) (p .dirty) (all mem c a n) low aligned c k (sym lacks ∙ h) in
         let y : allows c k (p .rights) ≡ true = sym allowed ∙ ap (λ (x : ℕ). eqb (x % 8) 0) h in
@@ -108,23 +109,23 @@ module _ (mem : Memory) (root a n need : ℕ) where
         } in
         let m : mem ≡ marked c k (reachIn mem c a .end) (reachIn mem c a .path) mem =
         sym (marked-same mem (ready .whole) c k (reachIn mem c a) (eights (entryAt mem) c a 4 (c .root) everything (ready .aligned)) on) in
-        let e : n - bitAnd n need ≡ n = omega (arith, h) in
+        let e : n - bitAnd n (bitOr need 16) ≡ n = omega (arith, h) in
         subst (Did c k (reachIn mem c a) mem mem) e (found (ap (λ (x : ℕ). x % 8) h) mem (rw (s .ends, y) at m))
 
     -- a right is lacking
-    refused : (bitAnd n need % 8 ≡ 0 → ⊥) → Did c k (reachIn mem c a) mem mem (n / 32 % 8 * 32 + 2)
+    refused : (bitAnd n (bitOr need 16) % 8 ≡ 0 → ⊥) → Did c k (reachIn mem c a) mem mem (n / 32 % 8 * 32 + 2)
     refused h =
         let y : allows c k (p .rights) ≡ false = sym allowed ∙ ne-eqb _ 0 h in
         record { number = ap (λ (l : ℕ). l * 32 + 2) level-is ∙ rw (s .ends, y); memory = rw (s .ends, y) }
 
-  pub way-done : bitAnd n need ≡ 0 → Settled mem mem root a n need n
+  pub way-done : bitAnd n (bitOr need 16) ≡ 0 → Settled mem mem root a n need n
   way-done h = record { did = λ c k ready hr hn high packs. nothing c k ready hn (paged mem c a n high packs) h }
 
-  pub way-refused : (bitAnd n need % 8 ≡ 0 → ⊥) → Settled mem mem root a n need (n / 32 % 8 * 32 + 2)
+  pub way-refused : (bitAnd n (bitOr need 16) % 8 ≡ 0 → ⊥) → Settled mem mem root a n need (n / 32 % 8 * 32 + 2)
   way-refused h = record { did = λ c k ready hr hn high packs. refused c k ready hn (paged mem c a n high packs) h }
 
-  pub way-marked : bitAnd n need % 8 ≡ 0 → (mem′ : Memory)
-      → MarkedDown mem mem′ (a * 2 ^ 16 % 2 ^ 64) 4 root (n / 32 % 8) (32 + need / 8 % 2 * 64) → Settled mem mem′ root a n need (n - bitAnd n need)
+  pub way-marked : bitAnd n (bitOr need 16) % 8 ≡ 0 → (mem′ : Memory)
+      → MarkedDown mem mem′ (a * 2 ^ 16 % 2 ^ 64) 4 root (n / 32 % 8) (32 + need / 8 % 2 * 64) → Settled mem mem′ root a n need (n - bitAnd n (bitOr need 16))
   way-marked h mem′ d =
       record {
         did = λ c k ready hr hn high packs.
@@ -153,7 +154,7 @@ module _ (c : Control) (k : Access) (n : ℕ) where
       go false = (fault-level Protection (p .level) h, fault-back Protection (p .level) h n m)
 
 -- ---- the ways out of `walk`
-module _ (mem : Memory) (c : Control) (k : Access) (a : ℕ) where
+module _ (mem : Memory) (c : Control) (a : ℕ) where
   abbrev reaches : Reach
   reaches = reachIn mem c a
 
@@ -167,39 +168,39 @@ module _ (mem : Memory) (c : Control) (k : Access) (a : ℕ) where
       go (reached p) e = leaf-base (entryAt mem) c p (is-leaf mem c a p e)
       go (stuck cause level) e = refl
 
-  both : Back c k (reaches .read) (judged c k (reaches .end) 0) (endLevel (reaches .end)) (judged c k (reaches .end) (reaches .read))
-  both = back c k (reaches .read) (reaches .end) (omega (arith, passed)) base-low (omega (arith, passed))
+  both : (k : Access) → Back c k (reaches .read) (judged c k (reaches .end) 0) (endLevel (reaches .end)) (judged c k (reaches .end) (reaches .read))
+  both k = back c k (reaches .read) (reaches .end) (omega (arith, passed)) base-low (omega (arith, passed))
 
-  module _ (mem′ : Memory) (m : ℕ) (did : Did c k (reachIn mem c a) mem mem′ m) where
+  module _ (k : Access) (mem′ : Memory) (m : ℕ) (did : Did c k (reachIn mem c a) mem mem′ m) where
     level-fits : levelIn m ≤ 5
-    level-fits = omega (arith, passed, ap levelIn (did .number) ∙ both .0)
+    level-fits = omega (arith, passed, ap levelIn (did .number) ∙ both k .0)
 
     walked : (r : Found) → r ≡ unpackOf m → _≡_ {A = Walked} (record { found = r; memory = mem′ }) (walk c k a mem)
-    walked r h = λ i. record { found = (h ∙ ap unpackOf (did .number) ∙ both .1) i; memory = did .memory i }
+    walked r h = λ i. record { found = (h ∙ ap unpackOf (did .number) ∙ both k .1) i; memory = did .memory i }
 
-  module _ (ready : Ready c mem) (bars n : ℕ) (bars-are : bars ≡ barsOf c) (down : Down mem (a * 2 ^ 16 % 2 ^ 64) 4 (c .root) 0 bars n) where
+  module _ (need bars n : ℕ) (ready : Ready c need mem) (bars-are : bars ≡ barsOf c) (down : Down mem (a * 2 ^ 16 % 2 ^ 64) 4 (c .root) 0 bars n) where
     packs : n ≡ packReach true (entryAt mem) reaches
     packs = down .finds c a (record { wide = ready .wide; narrow = ready .narrow; are = bars-are }) refl
 
     -- stuck
-    fell : n < 2048 → Did c k reaches mem mem n
-    fell h = go (reaches .end) refl
+    fell : n < 2048 → (k : Access) → Did c k reaches mem mem n
+    fell h k = go (reaches .end) refl
       where
         go : (w : End) → reaches .end ≡ w → Did c k reaches mem mem n
         go (stuck cause level) e = record { number = packs ∙ rw e; memory = rw e }
         go (reached p) e =
-            let q : n ≡ packPage (p .base) (p .level) (p .rights) (p .global) (p .dirty) (allAccessed (entryAt mem) (reaches .path)) = rw e at packs in
+            let q : n ≡ packEnd (reached p) (allAccessed (entryAt mem) (reaches .path)) = rw e at packs in
             absurd (omega (arith, page-high (p .base) (p .level) (p .rights) (p .global) (p .dirty) (allAccessed (entryAt mem) (reaches .path))))
 
     pub stuck-fits : n < 2048 → levelIn n ≤ 5
-    stuck-fits h = level-fits mem n (fell h)
+    stuck-fits h = level-fits (ready .access) mem n (fell h (ready .access))
 
-    pub stuck-walked : n < 2048 → (r : Found) → r ≡ unpackOf n → _≡_ {A = Walked} (record { found = r; memory = mem }) (walk c k a mem)
-    stuck-walked h = walked mem n (fell h)
+    pub stuck-walked : n < 2048 → (r : Found) → r ≡ unpackOf n → Walks c need a mem mem r
+    stuck-walked h r e = record { walks = λ k q. walked k mem n (fell h k) r e }
 
-    module _ (high : 2048 ≤ n) (need m : ℕ) (needs-are : need ≡ needOf c k) (mem′ : Memory) (settled : Settled mem mem′ (c .root) a n need m) where
+    module _ (high : 2048 ≤ n) (m : ℕ) (mem′ : Memory) (settled : Settled mem mem′ (c .root) a n need m) where
       pub page-fits : levelIn m ≤ 5
-      page-fits = level-fits mem′ m (settled .did c k ready refl needs-are high packs)
+      page-fits = level-fits (ready .access) mem′ m (settled .did c (ready .access) ready refl (ready .needs) high packs)
 
-      pub page-walked : (r : Found) → r ≡ unpackOf m → _≡_ {A = Walked} (record { found = r; memory = mem′ }) (walk c k a mem)
-      page-walked = walked mem′ m (settled .did c k ready refl needs-are high packs)
+      pub page-walked : (r : Found) → r ≡ unpackOf m → Walks c need a mem mem′ r
+      page-walked r e = record { walks = λ k q. walked k mem′ m (settled .did c k ready refl q high packs) r e }

@@ -8,10 +8,11 @@ use lib.Dec.{leb, eqb}
 use lib.Bits.{bitAnd, bitXor}
 use Rattle.rules.specs.Bits.{isOn, part, anyOn, one}
 use Rattle.rules.specs.Sizes.{shift}
-use Rattle.rules.specs.Image.{wp, nxe}
+use Rattle.rules.specs.Image.{nxe}
 use Rattle.rules.specs.Memory.{Memory, entryAt, added}
 use Rattle.rules.specs.Entries.{says}
-use Rattle.rules.specs.Walk.{Leaf, End, reached, stuck, Reach, endAt, step, reach, judged, accessed, dirtied, marked, reachIn}
+use Rattle.rules.specs.Walk.{Leaf, End, reached, stuck, Reach, endAt, step, reach, judged, accessed, dirtied, marked, reachIn, Walked, walk}
+use Rattle.numbers.specs.Needs.{neededOf}
 use Rattle.rules.specs.declared.Control.{Control}
 use Rattle.rules.specs.declared.Access.{Access}
 use Rattle.rules.specs.declared.Rights.{Rights}
@@ -20,13 +21,15 @@ use Rattle.rules.specs.declared.Cause.the-variants.{NotPresent, Reserved, Prote
 use Rattle.rules.specs.declared.Found.{Found}
 use Rattle.rules.specs.declared.Found.the-variants.{Page, Fault}
 
--- what `walk` asks of its caller: a width, a table root below 2^52, and memory in whole words
-pub record Ready (c : Control) (mem : Memory) : Type 0 where
+-- what `walk` asks of its caller: a width, a table root below 2^52, memory in whole words, and what some access needs of a page
+pub record Ready (c : Control) (need : ℕ) (mem : Memory) : Type 0 where
   pub wide : 36 ≤ c .width
   pub narrow : c .width ≤ 52
   pub low : c .root < 2 ^ 52
   pub aligned : c .root % 8 ≡ 0
   pub whole : length mem % 8 ≡ 0
+  pub access : Access
+  pub needs : need ≡ neededOf (c .flags) access
 
 -- ---- what goes down
 -- an entry with P, RW, US, A and D turned over: then a bit that is set says that something is lacking, as XD does
@@ -123,10 +126,6 @@ pub record Down (mem : Memory) (x level base seen bars n : ℕ) : Type 0 where
       → n ≡ packReach (accessedIn seen) (entryAt mem) (reach (entryAt mem) c a level base (rightsOf seen))
 
 -- ---- this access
--- the rights that it needs and the marks that it leaves, each where its lack stands in a page's number
-abbrev pub needOf : Control → Access → ℕ
-needOf c k = one (k .write && (k .user || wp (c .flags))) + one (k .user) * 2 + one (k .fetch) * 4 + one (k .write) * 8 + 16
-
 -- accessed, and dirty besides, as bits of an entry
 abbrev pub bitsOf : Bool → ℕ
 bitsOf true = 96
@@ -150,5 +149,9 @@ pub record Did (c : Control) (k : Access) (w : Reach) (mem mem′ : Memory) (n :
   pub memory : mem′ ≡ marked c k (w .end) (w .path) mem
 
 pub record Settled (mem mem′ : Memory) (root a n need r : ℕ) : Type 0 where
-  pub did : (c : Control) (k : Access) → Ready c mem → root ≡ c .root → need ≡ needOf c k → 2048 ≤ n
+  pub did : (c : Control) (k : Access) → Ready c need mem → root ≡ c .root → need ≡ neededOf (c .flags) k → 2048 ≤ n
       → n ≡ packReach true (entryAt mem) (reachIn mem c a) → Did c k (reachIn mem c a) mem mem′ r
+
+-- ---- the whole walk, for whatever access needs this
+pub record Walks (c : Control) (need a : ℕ) (mem mem′ : Memory) (f : Found) : Type 0 where
+  pub walks : (k : Access) → need ≡ neededOf (c .flags) k → _≡_ {A = Walked} (record { found = f; memory = mem′ }) (walk c k a mem)

@@ -7,9 +7,7 @@ ghost use Prim.Native.Nat.{_+_, _*_, _/_, _%_, _^_, _≤_, _<_};
 ghost use lib.ListN.{length};
 ghost use Rattle.rules.specs.Bits.{isOn, part};
 ghost use Rattle.rules.specs.Memory.{entryAt};
-ghost use Rattle.rules.specs.Walk.{walk as walkOf};
-ghost use Rattle.walk.specs.Packed.{Ready, bitsOf, markedAt, isReservedPage, rightsOf, accessedIn, packPage, Stops, Ended, Down, MarkedDown, barsOf, needOf, Settled, levelIn, unpackOf};
-use rules::Access;
+ghost use Rattle.walk.specs.Packed.{Ready, bitsOf, markedAt, isReservedPage, rightsOf, accessedIn, packPage, Stops, Ended, Down, MarkedDown, barsOf, Settled, levelIn, unpackOf, Walks};
 use rules::Cause;
 use rules::Control;
 use rules::Found;
@@ -138,23 +136,12 @@ fn bars_of(c: Control) -> u64
     bars + 0x8000_0000_0000_0000
 }
 
-// What an access needs of a page.
-fn need_of(c: Control, k: Access) -> u64
-    ensures { λ r. ⌜ r ≡ needOf c k ⌝ }
-{
-    words::one(k.write & (k.user | words::is_on(1, c.flags)))
-        + words::one(k.user) * 2
-        + words::one(k.fetch) * 4
-        + words::one(k.write) * 8
-        + 16
-}
-
-// Whether this access may use the page that was reached; if so, it lacks no mark afterwards.
+// Whether an access that needs this may use the page that was reached; if so, the page lacks no mark afterwards.
 fn settle(mem: &mut [u8], root: u64, a: u64, n: u64, need: u64) -> u64
     requires { ⌜ (root < 2 ^ 52) × ((root % 8 ≡ 0) × (length (now mem) % 8 ≡ 0)) ⌝ }
     ensures { λ r. ⌜ Settled (now (mem .entry)) (now (mem .exit)) root a n need r ⌝ }
 {
-    let lacks = n & need;
+    let lacks = n & (need | 16);
     if lacks == 0 {
         return n;
     }
@@ -208,14 +195,14 @@ fn unpack(n: u64) -> Found
     }
 }
 
-// The walk of an address: what it finds, with the accessed and dirty bits added to memory.
-pub fn walk(mem: &mut [u8], c: Control, k: Access, a: u64) -> Found
-    requires { ⌜ Ready c (now mem) ⌝ }
-    ensures { λ r. ⌜ record { found = r; memory = now (mem .exit) } ≡ walkOf c k a (now (mem .entry)) ⌝ }
+// The walk of an address for an access that needs this of a page: what it finds, with the accessed and dirty bits added to memory.
+pub fn walk(mem: &mut [u8], c: Control, need: u64, a: u64) -> Found
+    requires { ⌜ Ready c need (now mem) ⌝ }
+    ensures { λ r. ⌜ Walks c need a (now (mem .entry)) (now (mem .exit)) r ⌝ }
 {
     let n = down(mem, c.root, a << 16, 4, bars_of(c), 0);
     if n < 2048 {
         return unpack(n);
     }
-    unpack(settle(mem, c.root, a, n, need_of(c, k)))
+    unpack(settle(mem, c.root, a, n, need))
 }

@@ -19,9 +19,6 @@ same-length c = search needs
 returns : tie.Need-returns
 returns c = search stuck-walked
 
-need-of-requires : tie.Need-need-of-requires
-need-of-requires c κs = search needs
-
 settle-requires : tie.Need-settle-requires
 settle-requires c κs = search needs
 
@@ -43,7 +40,6 @@ walk-spec =
     unpack-requires
     same-length
     returns
-    need-of-requires
     settle-requires
     unpack-requires-2
     same-length-2

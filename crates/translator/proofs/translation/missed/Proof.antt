@@ -10,6 +10,9 @@ access-of-requires c κs = search needs
 control-of-requires : tie.Need-control-of-requires
 control-of-requires c κs = search needs
 
+needed-requires : tie.Need-needed-requires
+needed-requires c κs = search needs
+
 walk-requires : tie.Need-walk-requires
 walk-requires c κs = search walk-ready
 
@@ -31,6 +34,7 @@ missed-spec =
     (tie.spec
     access-of-requires
     control-of-requires
+    needed-requires
     walk-requires
     finish-requires
     same-length
