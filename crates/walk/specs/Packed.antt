@@ -12,7 +12,6 @@ use Rattle.rules.specs.Image.{nxe}
 use Rattle.rules.specs.Memory.{Memory, entryAt, added}
 use Rattle.rules.specs.Entries.{says}
 use Rattle.rules.specs.Walk.{Leaf, End, reached, stuck, Reach, endAt, step, reach, judged, accessed, dirtied, marked, reachIn, Walked, walk}
-use Rattle.numbers.specs.Needs.{neededOf}
 use Rattle.rules.specs.declared.Control.{Control}
 use Rattle.rules.specs.declared.Access.{Access}
 use Rattle.rules.specs.declared.Rights.{Rights}
@@ -20,6 +19,7 @@ use Rattle.rules.specs.declared.Cause.{Cause}
 use Rattle.rules.specs.declared.Cause.the-variants.{NotPresent, Reserved, Protection}
 use Rattle.rules.specs.declared.Found.{Found}
 use Rattle.rules.specs.declared.Found.the-variants.{Page, Fault}
+use Rattle.numbers.specs.Needs.{neededOf}
 
 -- what `walk` asks of its caller: a width, a table root below 2^52, memory in whole words, and what some access needs of a page
 pub record Ready (c : Control) (need : ℕ) (mem : Memory) : Type 0 where
@@ -113,6 +113,7 @@ isReservedPage level t = eqb level 4 || anyOn (shift level) 13 t
 abbrev pub Stops : ℕ → ℕ → ℕ → Type 0
 Stops level t bars = (level ≡ 1 → ⊥) → bitAnd t bars ≡ 0 → ⊥
 
+-- the rules' step ends at this entry, and the number is that of its end
 pub record EndsAt (c : Control) (level at e s n : ℕ) : Type 0 where
   pub end : End
   pub ends : (below : Reach) → step c level at e (rightsOf s) below (says c level e) ≡ endAt at end
@@ -121,12 +122,13 @@ pub record EndsAt (c : Control) (level at e s n : ℕ) : Type 0 where
 pub record Ended (t s level bars n : ℕ) : Type 0 where
   pub there : (c : Control) (e at : ℕ) → Bars c bars → t ≡ turned e → EndsAt c level at e s n
 
+-- from a level on, with what was lacking before: where the rules' walk ends
 pub record Down (mem : Memory) (x level base seen bars n : ℕ) : Type 0 where
   pub finds : (c : Control) (a : ℕ) → Bars c bars → x ≡ slid level a
       → n ≡ packReach (accessedIn seen) (entryAt mem) (reach (entryAt mem) c a level base (rightsOf seen))
 
--- ---- this access
--- accessed, and dirty besides, as bits of an entry
+-- ---- what an access does with the page
+-- accessed, or accessed and dirty, as bits of an entry
 abbrev pub bitsOf : Bool → ℕ
 bitsOf true = 96
 bitsOf false = 32
@@ -143,11 +145,12 @@ pub record MarkedDown (mem mem′ : Memory) (x level base last bits : ℕ) : Typ
       → x ≡ slid level a → reach rd c a level base r .end ≡ reached p → p .level ≡ last → bits ≡ bitsOf dirty
       → mem′ ≡ accessed (reach rd c a level base r .path) (dirtied dirty (p .at) mem)
 
--- what is found and written, of a page that is reached
+-- what is found and written
 pub record Did (c : Control) (k : Access) (w : Reach) (mem mem′ : Memory) (n : ℕ) : Type 0 where
   pub number : n ≡ packFound (judged c k (w .end) 0)
   pub memory : mem′ ≡ marked c k (w .end) (w .path) mem
 
+-- of a page, by its number
 pub record Settled (mem mem′ : Memory) (root a n need r : ℕ) : Type 0 where
   pub did : (c : Control) (k : Access) → Ready c need mem → root ≡ c .root → need ≡ neededOf (c .flags) k → 2048 ≤ n
       → n ≡ packReach true (entryAt mem) (reachIn mem c a) → Did c k (reachIn mem c a) mem mem′ r
