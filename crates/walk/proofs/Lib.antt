@@ -3,4 +3,5 @@ pub mod Ways
 pub mod Steps
 pub mod Marking
 pub mod Packing
+pub mod Settling
 pub mod Whole

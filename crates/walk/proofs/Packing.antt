@@ -10,6 +10,7 @@ use borrow.Author.Tests.{le-leb, lt-leb, not-false}
 use Rattle.rules.specs.Bits.{bit, isOn, one}
 use Rattle.rules.specs.Image.{wp}
 use Rattle.rules.specs.Entries.{allows}
+use Rattle.rules.specs.Walk.{Leaf, reached}
 use Rattle.rules.specs.declared.Control.{Control}
 use Rattle.rules.specs.declared.Access.{Access}
 use Rattle.rules.specs.declared.Rights.{Rights}
@@ -21,7 +22,7 @@ use Rattle.rules.proofs.BitLaws.{one-le, flag-back}
 use Rattle.words.proofs.Masks.{and-flag}
 use Rattle.numbers.specs.Needs.{neededOf}
 use Rattle.numbers.proofs.Laws.{has-bits}
-use Rattle.walk.specs.Packed.{packPage, causeCode, packFault, levelIn, unpackOf}
+use Rattle.walk.specs.Packed.{packPage, packEnd, causeCode, packFault, levelIn, unpackOf}
 use Rattle.walk.proofs.Masks.{not-not}
 
 zero-off : (b : Bool) → one b ≡ 0 → b ≡ false
@@ -34,22 +35,25 @@ dirty-split true false = refl
 dirty-split false true = refl
 dirty-split false false = refl
 
--- ---- a page
-module _ (base level : ℕ) (r : Rights) (g d a : Bool) where
-  abbrev number : ℕ
-  number = packPage base level r g d a
+-- ---- a page, with whether each entry on the way was accessed
+module _ (p : Leaf) (a : Bool) where
+  abbrev r : Rights
+  r = p .rights
 
-  pub page-high : 2048 ≤ packPage base level r g d a
+  abbrev number : ℕ
+  number = packEnd (reached p) a
+
+  pub page-high : 2048 ≤ packEnd (reached p) a
   page-high = omega arith
 
-  flags : (one g ≤ 1) × (one (not d) ≤ 1) × (one (not a) ≤ 1) × (one (not (r .user)) ≤ 1) × (one (not (r .writable)) ≤ 1) × (one (not (r .executable)) ≤ 1)
-  flags = (one-le g, one-le (not d), one-le (not a), one-le (not (r .user)), one-le (not (r .writable)), one-le (not (r .executable)))
+  flags : (one (p .global) ≤ 1) × (one (not (p .dirty)) ≤ 1) × (one (not a) ≤ 1) × (one (not (r .user)) ≤ 1) × (one (not (r .writable)) ≤ 1) × (one (not (r .executable)) ≤ 1)
+  flags = (one-le (p .global), one-le (not (p .dirty)), one-le (not a), one-le (not (r .user)), one-le (not (r .writable)), one-le (not (r .executable)))
 
-  module _ (h : level ≤ 7) (b : base % 4096 ≡ 0) where
-    pub page-level : levelIn (packPage base level r g d a) ≡ level
+  module _ (h : p .level ≤ 7) (b : p .base % 4096 ≡ 0) where
+    pub page-level : levelIn (packEnd (reached p) a) ≡ p .level
     page-level = omega (arith, flags)
 
-    page-base : number / 4096 * 4096 ≡ base
+    page-base : number / 4096 * 4096 ≡ p .base
     page-base = omega (arith, flags)
 
     lacks-write : isOn 0 number ≡ not (r .writable)
@@ -61,18 +65,18 @@ module _ (base level : ℕ) (r : Rights) (g d a : Bool) where
     lacks-fetch : isOn 2 number ≡ not (r .executable)
     lacks-fetch = flag-back (not (r .executable)) (bit 2 number) (omega (arith, flags))
 
-    lacks-dirty : isOn 3 number ≡ not d
-    lacks-dirty = flag-back (not d) (bit 3 number) (omega (arith, flags))
+    lacks-dirty : isOn 3 number ≡ not (p .dirty)
+    lacks-dirty = flag-back (not (p .dirty)) (bit 3 number) (omega (arith, flags))
 
     lacks-accessed : isOn 4 number ≡ not a
     lacks-accessed = flag-back (not a) (bit 4 number) (omega (arith, flags))
 
-    is-global : isOn 8 number ≡ g
-    is-global = flag-back g (bit 8 number) (omega (arith, flags))
+    is-global : isOn 8 number ≡ p .global
+    is-global = flag-back (p .global) (bit 8 number) (omega (arith, flags))
 
-    pub page-back : (n : ℕ) → n ≡ 5 - level → unpackOf (packPage base level r g d a) ≡ Page base level r g d n
+    pub page-back : (n : ℕ) → n ≡ 5 - p .level → unpackOf (packEnd (reached p) a) ≡ Page (p .base) (p .level) (p .rights) (p .global) (p .dirty) n
     page-back n m =
-        rw (le-leb 2048 number page-high, page-base, page-level, lacks-write, lacks-user, lacks-fetch, lacks-dirty, is-global, m, not-not (r .writable), not-not (r .user), not-not (r .executable), not-not d)
+        rw (le-leb 2048 number page-high, page-base, page-level, lacks-write, lacks-user, lacks-fetch, lacks-dirty, is-global, m, not-not (r .writable), not-not (r .user), not-not (r .executable), not-not (p .dirty))
 
     -- what an access needs and the page lacks: rights, dirty, accessed
     module _ (c : Control) (k : Access) where
@@ -88,10 +92,10 @@ module _ (base level : ℕ) (r : Rights) (g d a : Bool) where
       abbrev barred : ℕ
       barred = one no-fetch * 4 + (one no-user * 2 + one no-write)
 
-      abbrev needs : ℕ
-      needs = bitOr (neededOf (c .flags) k) 16
+      abbrev pub lacks : ℕ
+      lacks = bitAnd (packEnd (reached p) a) (bitOr (neededOf (c .flags) k) 16)
 
-      lacks-are : bitAnd number needs ≡ one (not a) * 16 + (one (k .write && not d) * 8 + barred)
+      lacks-are : lacks ≡ one (not a) * 16 + (one (k .write && not (p .dirty)) * 8 + barred)
       lacks-are =
           let w : Bool = k .write && (k .user || wp (c .flags)) in
           let low : neededOf (c .flags) k < 2 ^ 4 = omega (arith, one-le w, one-le (k .user), one-le (k .fetch), one-le (k .write)) in
@@ -106,10 +110,10 @@ module _ (base level : ℕ) (r : Rights) (g d a : Bool) where
             lacks-write,
           )
 
-      low-bits : bitAnd number needs % 8 ≡ barred
+      low-bits : lacks % 8 ≡ barred
       low-bits = rw lacks-are (omega (arith, one-le no-fetch, one-le no-user, one-le no-write))
 
-      pub allow-test : eqb (bitAnd (packPage base level r g d a) (bitOr (neededOf (c .flags) k) 16) % 8) 0 ≡ allows c k r
+      pub allow-test : eqb (lacks % 8) 0 ≡ allows c k (p .rights)
       allow-test =
           rw low-bits
           (same 7
@@ -118,13 +122,12 @@ module _ (base level : ℕ) (r : Rights) (g d a : Bool) where
           refl (k .fetch) (k .user) (k .write) (wp (c .flags)) (r .executable) (r .user) (r .writable))
 
       -- nothing is lacking
-      pub has-marks : bitAnd (packPage base level r g d a) (bitOr (neededOf (c .flags) k) 16) ≡ 0 → (a ≡ true) × ((k .write && not d) ≡ false)
-      has-marks h = (not-false a (zero-off (not a) (omega (arith, lacks-are))), zero-off (k .write && not d) (omega (arith, lacks-are)))
+      pub has-marks : lacks ≡ 0 → (a ≡ true) × ((k .write && not (p .dirty)) ≡ false)
+      has-marks h = (not-false a (zero-off (not a) (omega (arith, lacks-are))), zero-off (k .write && not (p .dirty)) (omega (arith, lacks-are)))
 
       -- marks alone are lacking, and are then there
-      pub marks-made : bitAnd (packPage base level r g d a) (bitOr (neededOf (c .flags) k) 16) % 8 ≡ 0
-          → packPage base level r g d a - bitAnd (packPage base level r g d a) (bitOr (neededOf (c .flags) k) 16) ≡ packPage base level r g (k .write || d) true
-      marks-made h = rw lacks-are (omega (arith, low-bits, dirty-split (k .write) d))
+      pub marks-made : lacks % 8 ≡ 0 → number - lacks ≡ packPage (p .base) (p .level) (p .rights) (p .global) (k .write || p .dirty) true
+      marks-made h = rw lacks-are (omega (arith, low-bits, dirty-split (k .write) (p .dirty)))
 
 -- ---- a fault
 code-low : (cause : Cause) → causeCode cause ≤ 2

@@ -1,143 +1,25 @@
--- The whole walk, from the top level on: this access is judged by the number of the page that is reached, and what the number that comes back says is what the
--- rules' walk finds, its count included. The count follows from the level at which the walk ended, since each level that is passed is an entry read.
-use Prim.Native.Nat.{ℕ, _+_, _-_, _*_, _/_, _%_, _^_, _≤_, _<_}
-use mathlib.Core.Path.{_≡_, refl, ap, ap₂, sym, _∙_, subst}
-use mathlib.Core.Bool.{Bool, true, false, _&&_, _||_}
-use mathlib.Core.List.{List, [], _∷_}
+-- The whole walk, from the top level on: what the number that comes back says is what the rules' walk finds, its count included.
+-- The count follows from the level at which the walk ended, since each level that is passed is an entry read.
+use Prim.Native.Nat.{ℕ, _+_, _-_, _*_, _%_, _^_, _≤_, _<_}
+use mathlib.Core.Path.{_≡_, refl, ap, _∙_}
+use mathlib.Core.Bool.{Bool, true, false, _||_}
 use native.Mathlib.Omega.{arith}
-use lib.Dec.{eqb}
-use lib.Bits.{bitAnd, bitOr}
-use borrow.Author.Tests.{eq-eqb, ne-eqb, not-false}
-use Rattle.rules.specs.Bits.{isOn, one}
-use Rattle.rules.specs.Image.{wp}
 use Rattle.rules.specs.Memory.{Memory, entryAt}
 use Rattle.rules.specs.Entries.{everything, allows}
-use Rattle.rules.specs.Walk.{Leaf, End, reached, stuck, Reach, pageIf, judged, accessed, dirtied, marked, reachIn, Walked, walk}
+use Rattle.rules.specs.Walk.{Leaf, End, reached, stuck, Reach, pageIf, judged, reachIn, Walked, walk}
 use Rattle.rules.specs.declared.Control.{Control}
 use Rattle.rules.specs.declared.Access.{Access}
 use Rattle.rules.specs.declared.Cause.the-variants.{Protection}
 use Rattle.rules.specs.declared.Found.{Found}
-use Rattle.rules.proofs.BoolLaws.{and-left, and-right}
-use Rattle.rules.proofs.BitLaws.{one-le}
-use Rattle.rules.proofs.WalkLaws.{endLevel, ended, end-low, IsLeaf, is-leaf, leaf-base}
-use Rattle.rules.proofs.Alike.{AllOf}
-use Rattle.rules.proofs.Grown.{eights}
-use Rattle.rules.proofs.Marks.{Marked, LeafOn, marked-same}
-use Rattle.numbers.specs.Needs.{neededOf}
-use Rattle.walk.specs.Packed.{Ready, barsOf, packPage, packFault, packEnd, packReach, allAccessed, packFound, levelIn, unpackOf, bitsOf, MarkedDown, Did, Settled, Down, Walks}
-use Rattle.walk.proofs.Packing.{page-high, page-level, page-back, allow-test, has-marks, marks-made, fault-low, fault-level, fault-back}
+use Rattle.rules.proofs.WalkLaws.{endLevel, ended, is-leaf, leaf-base}
+use Rattle.walk.specs.Packed.{Ready, barsOf, packEnd, packReach, allAccessed, packFound, levelIn, unpackOf, Did, Settled, Down, Walks}
+use Rattle.walk.proofs.Packing.{page-high, page-level, page-back, fault-level, fault-back}
 
+-- ---- a finding is read back from its number, and its level
 abbrev endBase : End → ℕ
 endBase (reached p) = p .base
 endBase (stuck cause level) = 0
 
--- ---- a number from 2048 on is a page's
-module _ (mem : Memory) (c : Control) (a n : ℕ) where
-  abbrev all : Bool
-  all = allAccessed (entryAt mem) (reachIn mem c a .path)
-
-  record Paged : Type 0 where
-    leaf : Leaf
-    ends : reachIn mem c a .end ≡ reached leaf
-    number : n ≡ packEnd (reached leaf) all
-
-  paged : 2048 ≤ n → n ≡ packReach true (entryAt mem) (reachIn mem c a) → Paged
-  paged h q = go (reachIn mem c a .end) refl
-    where
-      go : (w : End) → reachIn mem c a .end ≡ w → Paged
-      go (reached p) e = record { leaf = p; ends = e; number = rw e at q }
-      go (stuck cause level) e =
-          let f : n ≡ packFault cause level = rw e at q in
-          absurd (omega (arith, fault-low cause level (omega (arith, ap endLevel e, end-low (entryAt mem) c a 4 (c .root) everything (omega arith)))))
-
--- ---- the ways out of `settle`
-all-of : (rd : ℕ → ℕ) (path : List ℕ) → allAccessed rd path ≡ true → AllOf (λ at. isOn 5 (rd at) ≡ true) path
-all-of rd [] h = tt
-all-of rd (at ∷ path) h = (and-left (isOn 5 (rd at)) _ h, all-of rd path (and-right (isOn 5 (rd at)) _ h))
-
-write-bit : (c : Control) (k : Access) → neededOf (c .flags) k / 8 % 2 ≡ one (k .write)
-write-bit c k = omega (arith, one-le (k .write && (k .user || wp (c .flags))), one-le (k .user), one-le (k .fetch), one-le (k .write))
-
-bits-are : (w : Bool) (x : ℕ) → x ≡ one w → 32 + x * 64 ≡ bitsOf w
-bits-are true x h = rw h
-bits-are false x h = rw h
-
-module _ (mem : Memory) (root a n need : ℕ) where
-  module _ (c : Control) (k : Access) (ready : Ready c need mem) (hn : need ≡ neededOf (c .flags) k) (s : Paged mem c a n) where
-    abbrev p : Leaf
-    p = s .leaf
-
-    is : IsLeaf (entryAt mem) c p
-    is = is-leaf mem c a p (s .ends)
-
-    low : p .level ≤ 7
-    low = omega (arith, is .high)
-
-    aligned : p .base % 4096 ≡ 0
-    aligned = leaf-base (entryAt mem) c p is
-
-    lacks : bitAnd n (bitOr need 16) ≡ bitAnd (packEnd (reached p) (all mem c a n)) (bitOr (neededOf (c .flags) k) 16)
-    lacks = ap₂ bitAnd (s .number) (ap (λ (z : ℕ). bitOr z 16) hn)
-
-    allowed : eqb (bitAnd n (bitOr need 16) % 8) 0 ≡ allows c k (p .rights)
-    allowed =
-        ap (λ (x : ℕ). eqb (x % 8) 0) lacks
-        ∙ allow-test (p .base) (p .level) (p .rights) (p .global) (p .dirty) (all mem c a n) low aligned c k
-
-    level-is : n / 32 % 8 ≡ p .level
-    level-is = ap levelIn (s .number) ∙ page-level (p .base) (p .level) (p .rights) (p .global) (p .dirty) (all mem c a n) low aligned
-
-    -- marks alone are lacking, or nothing is: the page is found
-    found : bitAnd n (bitOr need 16) % 8 ≡ 0 → (mem′ : Memory) → mem′ ≡ accessed (reachIn mem c a .path) (dirtied (k .write) (p .at) mem)
-        → Did c k (reachIn mem c a) mem mem′ (n - bitAnd n (bitOr need 16))
-    found h mem′ m =
-        let y : allows c k (p .rights) ≡ true = sym allowed ∙ eq-eqb _ 0 h in
-        let e : n - bitAnd n (bitOr need 16) ≡ packPage (p .base) (p .level) (p .rights) (p .global) (k .write || p .dirty) true =
-        ap₂ (λ (x z : ℕ). x - z) (s .number) lacks
-        ∙ marks-made (p .base) (p .level) (p .rights) (p .global) (p .dirty) (all mem c a n) low aligned c k (sym (ap (λ (x : ℕ). x % 8) lacks) ∙ h) in
-        record { number = e ∙ rw (s .ends, y); memory = m ∙ rw (s .ends, y) }
-
-    -- where nothing is, the marks that the rules' walk makes are there
-    nothing : bitAnd n (bitOr need 16) ≡ 0 → Did c k (reachIn mem c a) mem mem n
-    nothing h =
-        let (acc, kept) = has-marks (p .base) (p .level) (p .rights) (p .global) (p .dirty) (all mem c a n) low aligned c k (sym lacks ∙ h) in
-        let y : allows c k (p .rights) ≡ true = sym allowed ∙ ap (λ (x : ℕ). eqb (x % 8) 0) h in
-        let on : Marked (k .write) (reachIn mem c a) mem =
-        record {
-          path = all-of (entryAt mem) (reachIn mem c a .path) acc;
-          leaf = λ w. subst (LeafOn mem) (sym (s .ends)) (sym (is .dirty) ∙ not-false (p .dirty) (rw w at kept));
-        } in
-        let m : mem ≡ marked c k (reachIn mem c a .end) (reachIn mem c a .path) mem =
-        sym (marked-same mem (ready .whole) c k (reachIn mem c a) (eights (entryAt mem) c a 4 (c .root) everything (ready .aligned)) on) in
-        let e : n - bitAnd n (bitOr need 16) ≡ n = omega (arith, h) in
-        subst (Did c k (reachIn mem c a) mem mem) e (found (ap (λ (x : ℕ). x % 8) h) mem (rw (s .ends, y) at m))
-
-    -- a right is lacking
-    refused : (bitAnd n (bitOr need 16) % 8 ≡ 0 → ⊥) → Did c k (reachIn mem c a) mem mem (n / 32 % 8 * 32 + 2)
-    refused h =
-        let y : allows c k (p .rights) ≡ false = sym allowed ∙ ne-eqb _ 0 h in
-        record { number = ap (λ (l : ℕ). l * 32 + 2) level-is ∙ rw (s .ends, y); memory = rw (s .ends, y) }
-
-  pub way-done : bitAnd n (bitOr need 16) ≡ 0 → Settled mem mem root a n need n
-  way-done h = record { did = λ c k ready hr hn high packs. nothing c k ready hn (paged mem c a n high packs) h }
-
-  pub way-refused : (bitAnd n (bitOr need 16) % 8 ≡ 0 → ⊥) → Settled mem mem root a n need (n / 32 % 8 * 32 + 2)
-  way-refused h = record { did = λ c k ready hr hn high packs. refused c k ready hn (paged mem c a n high packs) h }
-
-  pub way-marked : bitAnd n (bitOr need 16) % 8 ≡ 0 → (mem′ : Memory)
-      → MarkedDown mem mem′ (a * 2 ^ 16 % 2 ^ 64) 4 root (n / 32 % 8) (32 + need / 8 % 2 * 64) → Settled mem mem′ root a n need (n - bitAnd n (bitOr need 16))
-  way-marked h mem′ d =
-      record {
-        did = λ c k ready hr hn high packs.
-            let s : Paged mem c a n = paged mem c a n high packs in
-            let from : MarkedDown mem mem′ (a * 2 ^ 16 % 2 ^ 64) 4 (c .root) (n / 32 % 8) (32 + need / 8 % 2 * 64) =
-            subst (λ (b : ℕ). MarkedDown mem mem′ (a * 2 ^ 16 % 2 ^ 64) 4 b (n / 32 % 8) (32 + need / 8 % 2 * 64)) hr d in
-            found c k ready hn s h mem′
-            (from .marks (entryAt mem) c a everything (s .leaf) (k .write) (λ i h. refl) (ready .wide) (ready .narrow) (omega arith) refl (s .ends) (sym (level-is c k ready hn s))
-            (bits-are (k .write) (need / 8 % 2) (rw hn (write-bit c k))));
-      }
-
--- ---- a finding is read back from its number, and its level
 module _ (c : Control) (k : Access) (n : ℕ) where
   abbrev Back : Found → ℕ → Found → Type 0
   Back f level g = (levelIn (packFound f) ≡ level) × (unpackOf (packFound f) ≡ g)
@@ -146,11 +28,11 @@ module _ (c : Control) (k : Access) (n : ℕ) where
   back (stuck cause level) h b m = (fault-level cause level h, fault-back cause level h n m)
   back (reached p) h b m = go (allows c k (p .rights))
     where
+      written : Leaf
+      written = record { at = p .at; level = p .level; base = p .base; rights = p .rights; global = p .global; dirty = k .write || p .dirty }
+
       go : (y : Bool) → Back (pageIf y k p 0) (p .level) (pageIf y k p n)
-      go true = (
-        page-level (p .base) (p .level) (p .rights) (p .global) (k .write || p .dirty) true h b,
-        page-back (p .base) (p .level) (p .rights) (p .global) (k .write || p .dirty) true h b n m,
-      )
+      go true = (page-level written true h b, page-back written true h b n m)
       go false = (fault-level Protection (p .level) h, fault-back Protection (p .level) h n m)
 
 -- ---- the ways out of `walk`
@@ -190,7 +72,7 @@ module _ (mem : Memory) (c : Control) (a : ℕ) where
         go (stuck cause level) e = record { number = packs ∙ rw e; memory = rw e }
         go (reached p) e =
             let q : n ≡ packEnd (reached p) (allAccessed (entryAt mem) (reaches .path)) = rw e at packs in
-            absurd (omega (arith, page-high (p .base) (p .level) (p .rights) (p .global) (p .dirty) (allAccessed (entryAt mem) (reaches .path))))
+            absurd (omega (arith, page-high p (allAccessed (entryAt mem) (reaches .path))))
 
     pub stuck-fits : n < 2048 → levelIn n ≤ 5
     stuck-fits h = level-fits (ready .access) mem n (fell h (ready .access))

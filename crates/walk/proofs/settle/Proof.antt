@@ -1,6 +1,6 @@
 -- Its three ways: nothing is lacking, a right is, marks alone are.
 use lib.Bits.{and-le-l}
-use Rattle.walk.proofs.Whole.{way-done, way-refused, way-marked}
+use Rattle.walk.proofs.Settling.{way-done, way-refused, way-marked}
 use borrow.Author.Needs.{needs}
 use Rattle.walk.proofs.settle.Statement.{statement}
 use Rattle.walk.proofs.settle.Tie as tie
