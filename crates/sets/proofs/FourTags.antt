@@ -1,36 +1,32 @@
 -- The tags of a set's four ways, read together: their `or` is odd if one of them is held.
-use Prim.Native.Nat.{ℕ, zero, suc, _+_, _*_, _/_, _%_, _^_, _<_}
-use mathlib.Core.Path.{_≡_, refl, ap, sym, _∙_}
+use Prim.Native.Nat.{ℕ, _+_, _*_, _/_, _%_, _^_, _<_}
+use mathlib.Core.Path.{_≡_, refl, ap, ap₂, sym, _∙_}
 use mathlib.Core.Bool.{Bool, false, _||_}
 use mathlib.Core.List.{List}
 use native.Mathlib.Omega.{arith}
+use native.Mathlib.Nat.{div-one}
 use lib.ListN.{getD}
 use lib.Dec.{eqb}
-use lib.Bits.{bitOr, or-mod}
-use Rattle.rules.specs.Bits.{wordAt}
+use lib.Bits.{bitOr}
+use Rattle.rules.specs.Bits.{isOn, wordAt}
 use Rattle.rules.specs.Sizes.{pageNumber, setOf, ways}
 use Rattle.rules.specs.Image.{isHeld}
 use Rattle.rules.specs.declared.Size.{Size}
 use Rattle.rules.proofs.BoolLaws.{same}
 use Rattle.rules.proofs.PlaceLaws.{tag-at}
 use Rattle.words.proofs.Laws.{word-next}
+use Rattle.words.proofs.Masks.{or-on}
 use Rattle.sets.specs.Ways.{tagIn, anyHeld}
 
 -- ---- of two
 abbrev isOdd : ℕ → Bool
 isOdd n = eqb (n % 2) 1
 
+odd-is : (n : ℕ) → isOdd n ≡ isOn 0 n
+odd-is n = ap (λ (x : ℕ). eqb (x % 2) 1) (sym (div-one n))
+
 odd-or : (a b : ℕ) → isOdd (bitOr a b) ≡ (isOdd a || isOdd b)
-odd-or a b = ap (λ (x : ℕ). eqb x 1) (or-mod a b 1) ∙ go (a % 2) (b % 2) (omega arith) (omega arith)
-  where
-    go : (x y : ℕ) → x < 2 → y < 2 → eqb (bitOr x y) 1 ≡ (eqb x 1 || eqb y 1)
-    go zero zero h g = refl
-    go zero (suc zero) h g = refl
-    go (suc zero) zero h g = refl
-    go (suc zero) (suc zero) h g = refl
-    go zero (suc (suc y)) h g = absurd (omega arith)
-    go (suc zero) (suc (suc y)) h g = absurd (omega arith)
-    go (suc (suc x)) y h g = absurd (omega arith)
+odd-or a b = odd-is (bitOr a b) ∙ or-on 0 a b ∙ ap₂ _||_ (sym (odd-is a)) (sym (odd-is b))
 
 -- ---- of the four
 -- a tag is held if its lowest byte is odd

@@ -1,13 +1,13 @@
 -- What the code's masks say in the rules' terms: what a turned entry lacks, the bits that bar the way to a next table, what an access needs. A mask is
 -- taken apart flag by flag, and what is left is an identity of Booleans.
 use Prim.Native.Nat.{ℕ, _+_, _-_, _*_, _/_, _%_, _^_, _≤_, _<_}
-use mathlib.Core.Path.{_≡_, refl, ap, ap₂, sym, _∙_}
+use mathlib.Core.Path.{_≡_, refl, ap, sym, _∙_}
 use mathlib.Core.Bool.{Bool, true, false, _&&_, _||_, not}
 use native.Mathlib.Omega.{arith}
 use native.Mathlib.Nat.{zero-add, add-assoc, div-one, lt-of-lt-of-le}
 use lib.Dec.{eqb}
 use lib.Pow.{field, mod-pow-add, high-ones, pow-mono}
-use lib.Bits.{bitAnd, bitOr, bitXor, and-mask, or-shr, or-mod, xor-shr, xor-mod, xor-zero-r}
+use lib.Bits.{bitAnd, bitOr, bitXor, and-mask, xor-shr, xor-mod, xor-zero-r}
 use borrow.Author.Tests.{ne-eqb}
 use Rattle.rules.specs.Bits.{isOn, part, anyOn, one}
 use Rattle.rules.specs.Image.{nxe}
@@ -15,7 +15,7 @@ use Rattle.rules.specs.Entries.{also}
 use Rattle.rules.specs.declared.Control.{Control}
 use Rattle.rules.proofs.BoolLaws.{same}
 use Rattle.rules.proofs.BitLaws.{bit-high, part-high, one-le, on-one}
-use Rattle.words.proofs.Masks.{and-one, and-split, and-below, and-flag}
+use Rattle.words.proofs.Masks.{and-one, and-split, and-below, and-flag, or-on}
 use Rattle.walk.specs.Packed.{turned, rightsOf, accessedIn, badOf}
 
 pub not-not : (b : Bool) → not (not b) ≡ b
@@ -38,12 +38,6 @@ pub turn-part : (h l e : ℕ) → 7 ≤ l → part h l (turned e) ≡ part h l e
 turn-part h l e g = part-high 7 h l _ _ g (turn-high e)
 
 -- ---- what is lacking so far and in an entry
-or-on : (k x y : ℕ) → isOn k (bitOr x y) ≡ (isOn k x || isOn k y)
-or-on k x y =
-    rw (or-shr x y k, or-mod (x / 2 ^ k) (y / 2 ^ k) 1)
-    (ap₂ (λ (p q : ℕ). eqb (bitOr p q) 1) (on-one k x) (on-one k y)
-    ∙ same 2 (λ p q. eqb (bitOr (one p) (one q)) 1) (λ p q. p || q) refl (isOn k x) (isOn k y))
-
 -- a bit that is turned over stays clear where the entry has it
 has : (k s e : ℕ) → 0x67 / 2 ^ k % 2 ≡ 1 → not (isOn k (bitOr s (turned e))) ≡ (not (isOn k s) && isOn k e)
 has k s e h =
