@@ -52,8 +52,8 @@ pub fn datum_of(r: Rights, dirty: bool, base: u64) -> u64
         + base
 }
 
-// What a held page must have for an access, as bits of its datum. A kind has four bits of the number; write protect adds one of them, writable, to the
-// supervisor's write.
+// What a page must have for an access, held or reached by a walk, as bits of a datum. A kind has four bits of the number; write protect adds one of them,
+// writable, to the supervisor's write.
 pub fn needed(flags: u64, kind: u64) -> u64
     requires { ⌜ kind ≤ 5 ⌝ }
     ensures { λ r. ⌜ r ≡ neededOf flags (accessOf kind) ⌝ }

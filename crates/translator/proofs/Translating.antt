@@ -60,7 +60,7 @@ walk-ready b mem c t n u h e q =
       aligned = rw e (omega (arith, base-low 1 (decode b .width) (decode b .cr3) (omega arith)));
       whole = h;
       access = accessOf t;
-      needs = q;
+      asks = q;
     }
 
 -- ---- what a walk finds is in range

@@ -68,12 +68,12 @@ module _ (mem : Memory) (root a n need : ℕ) where
     aligned : p .base % 4096 ≡ 0
     aligned = leaf-base (entryAt mem) c p is
 
-    lacks : bitAnd n (bitOr need 16) ≡ bitAnd (packEnd (reached p) (all mem c a n)) (bitOr (neededOf (c .flags) k) 16)
-    lacks = ap₂ bitAnd (s .number) (ap (λ (z : ℕ). bitOr z 16) hn)
+    lacks-is : bitAnd n (bitOr need 16) ≡ bitAnd (packEnd (reached p) (all mem c a n)) (bitOr (neededOf (c .flags) k) 16)
+    lacks-is = ap₂ bitAnd (s .number) (ap (λ (z : ℕ). bitOr z 16) hn)
 
     allowed : eqb (bitAnd n (bitOr need 16) % 8) 0 ≡ allows c k (p .rights)
     allowed =
-        ap (λ (x : ℕ). eqb (x % 8) 0) lacks
+        ap (λ (x : ℕ). eqb (x % 8) 0) lacks-is
         ∙ allow-test p (all mem c a n) low aligned c k
 
     level-is : n / 32 % 8 ≡ p .level
@@ -85,14 +85,14 @@ module _ (mem : Memory) (root a n need : ℕ) where
     found h mem′ m =
         let y : allows c k (p .rights) ≡ true = sym allowed ∙ eq-eqb _ 0 h in
         let e : n - bitAnd n (bitOr need 16) ≡ packPage (p .base) (p .level) (p .rights) (p .global) (k .write || p .dirty) true =
-        ap₂ (λ (x z : ℕ). x - z) (s .number) lacks
-        ∙ marks-made p (all mem c a n) low aligned c k (sym (ap (λ (x : ℕ). x % 8) lacks) ∙ h) in
+        ap₂ (λ (x z : ℕ). x - z) (s .number) lacks-is
+        ∙ marks-made p (all mem c a n) low aligned c k (sym (ap (λ (x : ℕ). x % 8) lacks-is) ∙ h) in
         record { number = e ∙ rw (s .ends, y); memory = m ∙ rw (s .ends, y) }
 
     -- where nothing is, the marks that the rules' walk makes are there
     nothing : bitAnd n (bitOr need 16) ≡ 0 → Did c k (reachIn mem c a) mem mem n
     nothing h =
-        let (acc, kept) = has-marks p (all mem c a n) low aligned c k (sym lacks ∙ h) in
+        let (acc, kept) = has-marks p (all mem c a n) low aligned c k (sym lacks-is ∙ h) in
         let y : allows c k (p .rights) ≡ true = sym allowed ∙ ap (λ (x : ℕ). eqb (x % 8) 0) h in
         let on : Marked (k .write) (reachIn mem c a) mem =
         record {

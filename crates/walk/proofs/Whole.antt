@@ -82,7 +82,7 @@ module _ (mem : Memory) (c : Control) (a : ℕ) where
 
     module _ (high : 2048 ≤ n) (m : ℕ) (mem′ : Memory) (settled : Settled mem mem′ (c .root) a n need m) where
       pub page-fits : levelIn m ≤ 5
-      page-fits = level-fits (ready .access) mem′ m (settled .did c (ready .access) ready refl (ready .needs) high packs)
+      page-fits = level-fits (ready .access) mem′ m (settled .did c (ready .access) ready refl (ready .asks) high packs)
 
       pub page-walked : (r : Found) → r ≡ unpackOf m → Walks c need a mem mem′ r
       page-walked r e = record { walks = λ k q. walked k mem′ m (settled .did c k ready refl q high packs) r e }

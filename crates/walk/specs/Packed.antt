@@ -29,7 +29,7 @@ pub record Ready (c : Control) (need : ℕ) (mem : Memory) : Type 0 where
   pub aligned : c .root % 8 ≡ 0
   pub whole : length mem % 8 ≡ 0
   pub access : Access
-  pub needs : need ≡ neededOf (c .flags) access
+  pub asks : need ≡ neededOf (c .flags) access
 
 -- ---- what goes down
 -- an entry with P, RW, US, A and D turned over: then a bit that is set says that something is lacking, as XD does
