@@ -1,13 +1,15 @@
 /*
  * The calls of pastrulow.h in plain C, as fast as C for any x86-64 makes them: what the archive is measured against.
- * Same image, same refusals, same record. It is held to the model of document 01 by the differential test; nothing is proved.
+ * Same image, same refusals, same record. It is held to the model of the paper by the differential test; nothing is proved.
  */
 #include "baseline_parts.h"
 
-APART uint64_t fault(uint8_t *answer, uint64_t kind, uint64_t cause, uint64_t read)
+/* NXE is the same bit of the flags as a fetch is of the code. */
+APART uint64_t fault(uint8_t *answer, const uint8_t *image, uint64_t kind, uint64_t cause, uint64_t read)
 {
     static const uint8_t codes[6] = {0, 2, 16, 4, 6, 20};
-    return answer_words(answer, PASTRULOW_FAULT, codes[kind] | cause, 0, read);
+    uint64_t told = image[FLAGS_AT] | ~PASTRULOW_CODE_FETCH;
+    return answer_words(answer, PASTRULOW_FAULT, (codes[kind] & told) | cause, 0, read);
 }
 
 /* The victim's way; its number moves on. */
@@ -58,7 +60,7 @@ PART uint64_t take_page(uint8_t *image, const struct walk *walk, uint64_t kind, 
     unsigned need = needs[kind + 4 * (flags & PASTRULOW_WP)];
     bool write = (need & DIRTY) != 0;
     if (UNLIKELY((~rights & need & ~(unsigned)DIRTY) != 0))
-        return fault(answer, kind, PASTRULOW_CODE_PRESENT, read);
+        return fault(answer, image, kind, PASTRULOW_CODE_PRESENT, read);
     uint64_t entry = walk->entry | (write ? ENTRY_DIRTY : 0);
     if (UNLIKELY(!(walk->every & ACCESSED) || entry != walk->entry))
         mark(image, walk->memory, walk->memory_len, address, length, write ? ACCESSED | ENTRY_DIRTY : ACCESSED);
@@ -92,7 +94,7 @@ PART uint64_t step(struct walk *walk, uint64_t address, unsigned shift, uint64_t
     do {                                                                                                                 \
         uint64_t cause = step(&walk, address, shift, large);                                                             \
         if (UNLIKELY(cause != NO_FAULT))                                                                                 \
-            return fault(answer, kind, cause, read);                                                                     \
+            return fault(answer, image, kind, cause, read);                                                              \
     } while (0)
 
 /* This and what follows take their arguments where translate has its own, so that few are moved on the way. */

@@ -33,7 +33,7 @@ extern "C" {
  * number, and a host should compare the two at its start. This does not help a host that does not ask; and nothing checks the
  * declarations below against the archive.
  */
-#define PASTRULOW_VERSION UINT64_C(1)
+#define PASTRULOW_VERSION UINT64_C(2)
 uint64_t pastrulow_version(void);
 
 /* Lengths in bytes. Guest memory is lent in whole pages, from physical address 0 up. */
@@ -81,7 +81,7 @@ uint64_t pastrulow_version(void);
 #define PASTRULOW_CODE_WRITE UINT64_C(2)     /* the access was a write */
 #define PASTRULOW_CODE_USER UINT64_C(4)      /* the access was a user's */
 #define PASTRULOW_CODE_RESERVED UINT64_C(8)  /* a reserved bit was set */
-#define PASTRULOW_CODE_FETCH UINT64_C(16)    /* the access was a fetch */
+#define PASTRULOW_CODE_FETCH UINT64_C(16)    /* the access was a fetch, with NXE on; with NXE off a fetch has a read's code */
 
 /*
  * Refusals. If several apply, the lowest is given. Refusal 1 writes nothing; the others write only the record, and neither the

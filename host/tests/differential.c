@@ -1,11 +1,11 @@
 /*
- * The archive against the model of document 01, on random sequences of calls: return, record, image and guest memory are
+ * The archive against the model of the paper, on random sequences of calls: return, record, image and guest memory are
  * compared after each call, and the guard bytes around them.
  *
  *     differential [SEED [SEQUENCE [COUNT]]]
  *
  * runs every sequence under a seed, or COUNT (1 if not given) from one on. A run over every sequence also prints how often
- * each thing that document 01 speaks of happened, and fails if one never did.
+ * each thing that the paper speaks of happened, and fails if one never did.
  */
 #include <inttypes.h>
 #include <stdio.h>

@@ -1,4 +1,4 @@
-/* What can happen in a call, by the rules of document 01. The model counts each, so that a test can say what it has met. */
+/* What can happen in a call, by the rules of the paper. The model counts each, so that a test can say what it has met. */
 #ifndef EVENTS_H
 #define EVENTS_H
 
@@ -42,6 +42,12 @@
     X(PROTECTED_1, "fault, protection, level 1")                                      \
     X(PROTECTED_2, "fault, protection, level 2")                                      \
     X(PROTECTED_3, "fault, protection, level 3")                                      \
+    X(FETCH_TOLD_ABSENT, "fetch's fault with NXE on, not present")                    \
+    X(FETCH_TOLD_RESERVED, "fetch's fault with NXE on, reserved bit")                 \
+    X(FETCH_TOLD_PROTECTED, "fetch's fault with NXE on, protection")                  \
+    X(FETCH_UNTOLD_ABSENT, "fetch's fault with NXE off, not present")                 \
+    X(FETCH_UNTOLD_RESERVED, "fetch's fault with NXE off, reserved bit")              \
+    X(FETCH_UNTOLD_PROTECTED, "fetch's fault with NXE off, protection")               \
     X(RESERVED_BY_WIDTH, "reserved: a bit of 51..M")                                  \
     X(RESERVED_BY_XD, "reserved: bit 63 with NXE off")                                \
     X(RESERVED_BY_LENGTH, "reserved: a bit below a large page's base")                \

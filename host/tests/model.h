@@ -1,5 +1,5 @@
 /*
- * Document 01 once more, in plain C: the same six calls as pastrulow.h, written from the paper alone, slow and simple.
+ * The paper once more, in plain C: the same six calls as pastrulow.h, written from documents 01 and 02 alone, slow and simple.
  * The model counts what happens (events.h).
  */
 #ifndef MODEL_H

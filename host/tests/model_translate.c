@@ -65,10 +65,18 @@ static void drop_matches(struct state *state, uint64_t address)
         event(EVENT_MISS_DROP_SEVERAL);
 }
 
-static uint64_t fault_code(struct access access, enum cause cause)
+static void count_fetch_fault(const struct state *state, enum cause cause)
 {
+    event((state->nxe ? EVENT_FETCH_TOLD_ABSENT : EVENT_FETCH_UNTOLD_ABSENT) + (cause - NOT_PRESENT));
+}
+
+static uint64_t fault_code(const struct state *state, struct access access, enum cause cause)
+{
+    if (access.fetch)
+        count_fetch_fault(state, cause);
+    bool fetch_told = access.fetch && state->nxe;
     return (uint64_t)(cause != NOT_PRESENT) | (uint64_t)access.write << 1 | (uint64_t)access.user << 2 |
-           (uint64_t)(cause == RESERVED) << 3 | (uint64_t)access.fetch << 4;
+           (uint64_t)(cause == RESERVED) << 3 | (uint64_t)fetch_told << 4;
 }
 
 static void translate_paged(struct state *state, struct memory memory, struct access access, uint64_t address,
@@ -83,7 +91,7 @@ static void translate_paged(struct state *state, struct memory memory, struct ac
     drop_matches(state, address);
     struct walked walked = walk(state, memory, access, address);
     if (walked.cause != NO_FAULT) {
-        put_answer(answer, FAULT, fault_code(access, walked.cause), 0, walked.read);
+        put_answer(answer, FAULT, fault_code(state, access, walked.cause), 0, walked.read);
         return;
     }
     if (walked.dirty && !access.write)

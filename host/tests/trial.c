@@ -116,7 +116,7 @@ static void absent_and_reserved(void)
     faults(5, 0x3000, 0x14, 4);
     afresh("kind 5 at 0x3000 with NXE off");
     is_done("mode write", machine_write_mode(&machine, FLAGS & ~PASTRULOW_NXE));
-    faults(5, 0x3000, 0x14, 4);
+    faults(5, 0x3000, 4, 4);
     afresh("kind 0 at 0x4000");
     faults(0, 0x4000, 9, 4);
 }

@@ -48,15 +48,13 @@ void put_words(struct machine *machine, const char *words)
         bad_line(words);
 }
 
-struct pastrulow_answer read_result(const char *text, uint64_t kind)
+struct pastrulow_answer read_result(const char *text)
 {
     struct pastrulow_answer answer = {0, 0, 0, 0};
-    bool fetch = kind == PASTRULOW_FETCH || kind == PASTRULOW_USER_FETCH;
     if (sscanf(text, "address %" SCNx64 " %" SCNx64, &answer.value, &answer.size) == 2) {
         answer.kind = PASTRULOW_ADDRESS;
     } else if (sscanf(text, "fault %" SCNx64, &answer.value) == 1) {
         answer.kind = PASTRULOW_FAULT;
-        answer.value |= fetch ? PASTRULOW_CODE_FETCH : 0;
     } else if (sscanf(text, "refused %" SCNx64, &answer.value) == 1) {
         answer.kind = PASTRULOW_REFUSED;
     } else {

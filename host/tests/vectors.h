@@ -17,8 +17,8 @@ char *next_line(FILE *file);
 void bad_line(const char *line);
 /* Stores words written as PA:WORD, parted by spaces. */
 void put_words(struct machine *machine, const char *words);
-/* "address PA SIZE", "fault CODE" or "refused NUMBER" as an answer with no entries read. A fetch's code gets bit 4. */
-struct pastrulow_answer read_result(const char *text, uint64_t kind);
+/* "address PA SIZE", "fault CODE" or "refused NUMBER" as an answer with no entries read. */
+struct pastrulow_answer read_result(const char *text);
 /* Both give an address, or both a fault, or both a refusal, alike but for the entries read. */
 bool same_result(struct pastrulow_answer one, struct pastrulow_answer other);
 

@@ -79,7 +79,7 @@ static void take_line(struct single *single, const char *line)
     else if (strncmp(line, "after", 5) == 0)
         put_words(&expected, line + 5);
     else if (strncmp(line, "result ", 7) == 0)
-        single->result = read_result(line + 7, single->kind);
+        single->result = read_result(line + 7);
     else if (strcmp(line, "note beyond-64k") == 0)
         single->beyond = true;
     else if (strncmp(line, "note ", 5) != 0)

@@ -53,7 +53,7 @@ static struct pastrulow_answer due(const struct page *page, uint64_t kind, uint6
         answer.kind = PASTRULOW_FAULT;
         answer.size = 0;
         answer.value = PASTRULOW_CODE_PRESENT | (write ? PASTRULOW_CODE_WRITE : 0) | (user ? PASTRULOW_CODE_USER : 0) |
-                       (fetch ? PASTRULOW_CODE_FETCH : 0);
+                       (fetch && (flags & PASTRULOW_NXE) ? PASTRULOW_CODE_FETCH : 0);
     }
     return answer;
 }

@@ -47,7 +47,7 @@ static void translate(const char *line)
     const char *result = strstr(line, "=\t");
     if (result == NULL || sscanf(line, "T %" SCNx64 " %" SCNx64, &kind, &address) != 2)
         bad_line(line);
-    struct pastrulow_answer recorded = read_result(result + 2, kind);
+    struct pastrulow_answer recorded = read_result(result + 2);
     struct pastrulow_answer answer = machine_translate(&machine, kind, address);
     hits += answer.kind == PASTRULOW_ADDRESS && answer.read == 0;
     misses += answer.kind == PASTRULOW_ADDRESS && answer.read != 0;

@@ -10,7 +10,7 @@ use lib.Bits.{bitAnd}
 use Rattle.rules.specs.Bits.{isOn, one, wordAt}
 use Rattle.rules.specs.Image.{wp}
 use Rattle.rules.specs.Buffer.{serves}
-use Rattle.rules.specs.Answers.{code}
+use Rattle.rules.specs.Answers.{tellsFetch, code}
 use Rattle.rules.specs.Calls.{accessOf}
 use Rattle.rules.specs.declared.Control.{Control}
 use Rattle.rules.specs.declared.Access.{Access}
@@ -22,16 +22,15 @@ use Rattle.rules.proofs.PlaceLaws.{flags-at, cr3-at}
 use Rattle.words.proofs.Masks.{and-one, and-flag}
 use Rattle.numbers.specs.Needs.{IsPcid, neededFrom, neededOf}
 
--- ---- the access, by its kind
-pub access-is : (k : ℕ) → k ≤ 5
-    → _≡_ {A = Access} (record { write = eqb k 1 || eqb k 4; user = leb 3 k; fetch = eqb k 2 || eqb k 5 }) (accessOf k)
-access-is zero h = refl
-access-is (suc zero) h = refl
-access-is (suc (suc zero)) h = refl
-access-is (suc (suc (suc zero))) h = refl
-access-is (suc (suc (suc (suc zero)))) h = refl
-access-is (suc (suc (suc (suc (suc zero))))) h = refl
-access-is (suc (suc (suc (suc (suc (suc k)))))) h = absurd (omega arith)
+-- ---- what is said of a kind, said of each of the six
+by-kind : (P : ℕ → Type 0) → P 0 → P 1 → P 2 → P 3 → P 4 → P 5 → (k : ℕ) → k ≤ 5 → P k
+by-kind P r w x ur uw ux zero h = r
+by-kind P r w x ur uw ux (suc zero) h = w
+by-kind P r w x ur uw ux (suc (suc zero)) h = x
+by-kind P r w x ur uw ux (suc (suc (suc zero))) h = ur
+by-kind P r w x ur uw ux (suc (suc (suc (suc zero)))) h = uw
+by-kind P r w x ur uw ux (suc (suc (suc (suc (suc zero))))) h = ux
+by-kind P r w x ur uw ux (suc (suc (suc (suc (suc (suc k)))))) h = absurd (omega arith)
 
 -- ---- the current PCID
 pub pcid-on : (b : List ℕ) (f r : ℕ) (k : Bool) → f ≡ wordAt b 8 → r ≡ wordAt b 16 → k ≡ isOn 3 f → k ≡ true
@@ -45,19 +44,8 @@ pcid-off b f k hf hk t = record { current = rw (flags-at b, ← hf, ← hk, t); 
 
 -- ---- rights: what an access needs is read off one number, and is a conjunction of the datum's bits
 needed-by : (p : Bool) (k : ℕ) → k ≤ 5 → (0x6B2480 + one p * 16) / 2 ^ (4 * k) % 16 ≡ neededFrom p (accessOf k)
-needed-by true zero h = refl
-needed-by true (suc zero) h = refl
-needed-by true (suc (suc zero)) h = refl
-needed-by true (suc (suc (suc zero))) h = refl
-needed-by true (suc (suc (suc (suc zero)))) h = refl
-needed-by true (suc (suc (suc (suc (suc zero))))) h = refl
-needed-by false zero h = refl
-needed-by false (suc zero) h = refl
-needed-by false (suc (suc zero)) h = refl
-needed-by false (suc (suc (suc zero))) h = refl
-needed-by false (suc (suc (suc (suc zero)))) h = refl
-needed-by false (suc (suc (suc (suc (suc zero))))) h = refl
-needed-by p (suc (suc (suc (suc (suc (suc k)))))) h = absurd (omega arith)
+needed-by true = by-kind (λ (k : ℕ). (0x6B2480 + 16) / 2 ^ (4 * k) % 16 ≡ neededFrom true (accessOf k)) refl refl refl refl refl refl
+needed-by false = by-kind (λ (k : ℕ). 0x6B2480 / 2 ^ (4 * k) % 16 ≡ neededFrom false (accessOf k)) refl refl refl refl refl refl
 
 pub needed-is : (f k : ℕ) → k ≤ 5 → (0x6B2480 + f / 2 % 2 * 16) / 2 ^ (4 * k) % 16 ≡ neededOf f (accessOf k)
 needed-is f k h = ap (λ (x : ℕ). (0x6B2480 + x * 16) / 2 ^ (4 * k) % 16) (on-one 1 f) ∙ needed-by (wp f) k h
@@ -93,15 +81,26 @@ base-fits d l h = omega (arith, div-add-mod (d % 2 ^ 52) l)
 pub sum-fits : (d a l : ℕ) → 1 ≤ l → l ≤ 2 ^ 30 → d % 2 ^ 52 / l * l + a % l < 2 ^ 64
 sum-fits d a l h g = omega (arith, div-add-mod (d % 2 ^ 52) l, mod-lt a h)
 
--- ---- the code of a fault
-pub not-present : (k : Access) (cause : Cause) (w u x : ℕ) → w ≡ one (k .write) → u ≡ one (k .user) → x ≡ one (k .fetch) → cause ≡ NotPresent
-    → (c : Control) → 2 * w + 4 * u + 16 * x ≡ code c k cause
-not-present k cause w u x hw hu hx e c = rw (e, ← hw, ← hu, ← hx) (omega arith)
+-- ---- the code of a fault: what it tells of the access is read off one number, and the cause adds its bits
+abbrev toldOf : Bool → Access → ℕ
+toldOf told k = 2 * one (k .write) + 4 * one (k .user) + 16 * one (k .fetch && told)
 
-pub reserved : (k : Access) (cause : Cause) (w u x : ℕ) → w ≡ one (k .write) → u ≡ one (k .user) → x ≡ one (k .fetch) → cause ≡ Reserved
-    → (c : Control) → 9 + (2 * w + 4 * u + 16 * x) ≡ code c k cause
-reserved k cause w u x hw hu hx e c = rw (e, ← hw, ← hu, ← hx) (omega arith)
+abbrev readOff : ℕ → ℕ → ℕ
+readOff x k = (0x040604000200 + x * 0x100000100000) / 2 ^ (8 * k) % 256
 
-pub protection : (k : Access) (cause : Cause) (w u x : ℕ) → w ≡ one (k .write) → u ≡ one (k .user) → x ≡ one (k .fetch) → cause ≡ Protection
-    → (c : Control) → 1 + (2 * w + 4 * u + 16 * x) ≡ code c k cause
-protection k cause w u x hw hu hx e c = rw (e, ← hw, ← hu, ← hx) (omega arith)
+told-by : (t : Bool) (k : ℕ) → k ≤ 5 → readOff (one t) k ≡ toldOf t (accessOf k)
+told-by true = by-kind (λ (k : ℕ). readOff 1 k ≡ toldOf true (accessOf k)) refl refl refl refl refl refl
+told-by false = by-kind (λ (k : ℕ). readOff 0 k ≡ toldOf false (accessOf k)) refl refl refl refl refl refl
+
+module _ (told : Bool) (k : ℕ) (cause : Cause) (x : ℕ) (low : k ≤ 5) (hx : x ≡ one told) where
+  told-is : readOff x k ≡ toldOf told (accessOf k)
+  told-is = ap (λ (y : ℕ). readOff y k) hx ∙ told-by told k low
+
+  pub not-present : cause ≡ NotPresent → (c : Control) → told ≡ tellsFetch (c .flags) → readOff x k ≡ code c (accessOf k) cause
+  not-present e c t = rw (e, ← t, told-is) (omega arith)
+
+  pub reserved : cause ≡ Reserved → (c : Control) → told ≡ tellsFetch (c .flags) → 9 + readOff x k ≡ code c (accessOf k) cause
+  reserved e c t = rw (e, ← t, told-is) (omega arith)
+
+  pub protection : cause ≡ Protection → (c : Control) → told ≡ tellsFetch (c .flags) → 1 + readOff x k ≡ code c (accessOf k) cause
+  protection e c t = rw (e, ← t, told-is) (omega arith)

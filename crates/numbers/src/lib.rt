@@ -1,27 +1,15 @@
-// The numbers of a call: the access kind, the PCID, a slot's two words, whether a held page serves and its address, the code of a fault.
+// The numbers of a call: the PCID, a slot's two words, what an access needs, whether a held page serves and its address, the code of a fault.
 ghost use mathlib.Core.Path.{_≡_};
 ghost use lib.ListN.{length};
 ghost use Prim.Native.Nat.{_+_, _*_, _/_, _%_, _^_, _≤_, _<_};
 ghost use Rattle.rules.specs.Image.{tagOf, datumOf};
 ghost use Rattle.rules.specs.Buffer.{serves as servesOf};
-ghost use Rattle.rules.specs.Answers.{code as codeOf};
+ghost use Rattle.rules.specs.Answers.{tellsFetch, code as codeOf};
 ghost use Rattle.rules.specs.Calls.{accessOf};
 ghost use Rattle.rules.specs.declared.Control.{Control as ControlOf};
 ghost use Rattle.numbers.specs.Needs.{IsPcid, neededOf};
-use rules::Access;
 use rules::Cause;
 use rules::Rights;
-
-pub fn access_of(kind: u64) -> Access
-    requires { ⌜ kind ≤ 5 ⌝ }
-    ensures { λ r. ⌜ r ≡ accessOf kind ⌝ }
-{
-    Access {
-        write: (kind == 1) | (kind == 4),
-        user: 3 <= kind,
-        fetch: (kind == 2) | (kind == 5),
-    }
-}
 
 // The current PCID.
 pub fn pcid_of(image: &[u8]) -> u64
@@ -78,11 +66,20 @@ pub fn hit_address(d: u64, a: u64, size: u64) -> u64
     d % 0x10_0000_0000_0000 / size * size + a % size
 }
 
-// A page fault's code.
-pub fn code_of(k: Access, cause: Cause) -> u64
-    ensures { λ r. ⌜ ((c : ControlOf) → r ≡ codeOf c k cause) ⌝ }
+// Whether a fault's code tells a fetch.
+pub fn tells_fetch(flags: u64) -> bool
+    ensures { λ b. ⌜ b ≡ tellsFetch flags ⌝ }
 {
-    let asked = 2 * words::one(k.write) + 4 * words::one(k.user) + 16 * words::one(k.fetch);
+    words::is_on(4, flags)
+}
+
+// A page fault's code. What it tells of the access is eight bits of a number, by the kind; a fetch is told only if the flags let it.
+pub fn code_of(told: bool, kind: u64, cause: Cause) -> u64
+    requires { ⌜ kind ≤ 5 ⌝ }
+    ensures { λ r. ⌜ ((c : ControlOf) → told ≡ tellsFetch (c .flags) → r ≡ codeOf c (accessOf kind) cause) ⌝ }
+{
+    let kinds = 0x04_06_04_00_02_00 + words::one(told) * 0x10_00_00_10_00_00;
+    let asked = (kinds >> (8 * kind)) % 256;
     match cause {
         Cause::NotPresent => asked,
         Cause::Reserved => 9 + asked,

@@ -18,7 +18,7 @@ pub record PassesMemory (q : Request) (r r′ b b′ : List ℕ) (mem mem′ : M
 
 -- the version of the calls, raised whenever the parameters or the meaning of one change
 abbrev pub version : ℕ
-version = 1
+version = 2
 
 -- ---- its parts
 -- the answer bytes are these four words

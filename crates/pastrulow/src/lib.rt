@@ -14,7 +14,7 @@ const RECORD_LENGTH: usize = 32;
 const NO_RECORD: u64 = 1;
 
 // The header has the same number, for a host to compare.
-const VERSION: u64 = 1;
+const VERSION: u64 = 2;
 
 // The record's four words.
 fn put(answer: &mut [u8], kind: u64, value: u64, size: u64, read: u64)

@@ -3,7 +3,7 @@
 -- through the door writes. And a fault's code tells its cause.
 use Prim.Native.Nat.{ℕ, zero, suc, _+_, _%_, _^_, _≤_, _<_}
 use mathlib.Core.Path.{_≡_, refl, ap, _∙_, subst}
-use mathlib.Core.Bool.{false}
+use mathlib.Core.Bool.{false, _&&_}
 use mathlib.Core.List.{List, [], _∷_}
 use native.Mathlib.Omega.{arith}
 use lib.ListN.{length}
@@ -15,7 +15,7 @@ use Rattle.rules.specs.Memory.{Memory, entryAt}
 use Rattle.rules.specs.Entries.{everything}
 use Rattle.rules.specs.Walk.{Leaf, reached, reachIn, top, judged}
 use Rattle.rules.specs.Buffer.{hitAddress}
-use Rattle.rules.specs.Answers.{Words, numbers, recordBytes, code, answerOf}
+use Rattle.rules.specs.Answers.{Words, numbers, recordBytes, wasPresent, wasReserved, tellsFetch, code, answerOf}
 use Rattle.rules.specs.Refusals.{Request, start, translate, invlpg, invpcid, writeCr3, writeMode, Refusal, lowest, refusals, refusal, noAddress}
 use Rattle.rules.specs.Calls.{After, accessOf, accepted, Outcome, Left, call, door}
 use Rattle.rules.specs.declared.Size.{Size}
@@ -53,9 +53,8 @@ four k v s n hk hv hs hn (suc (suc (suc (suc i)))) = omega arith
 
 -- ---- what translate answers
 code-lt : (c : Control) (k : Access) (cause : Cause) → code c k cause < 2 ^ 64
-code-lt c k NotPresent = omega (arith, one-le (k .write), one-le (k .user), one-le (k .fetch))
-code-lt c k Reserved = omega (arith, one-le (k .write), one-le (k .user), one-le (k .fetch))
-code-lt c k Protection = omega (arith, one-le (k .write), one-le (k .user), one-le (k .fetch))
+code-lt c k cause =
+    omega (arith, one-le (wasPresent cause), one-le (k .write), one-le (k .user), one-le (wasReserved cause), one-le (k .fetch && tellsFetch (c .flags)))
 
 hit-lt : (z : Size) (d a : ℕ) → Is z → hitAddress z d a < 2 ^ 64
 hit-lt z d a is-small = omega arith

@@ -87,6 +87,16 @@ walks =
     ∷ writeMode 7 gives Done
     ∷ translate 0 0x9000 gives PageFault Reserved 1 9 4
     ∷ []) (keeps [] ∷ [])
+    -- a code tells a fetch with NXE on and not with it off, whatever the cause
+    ∷ then
+    (translate 2 0x28000000000 gives PageFault NotPresent 3 0x10 2
+    ∷ translate 5 0x200000000 gives PageFault Reserved 3 0x1D 2
+    ∷ translate 5 0x5000 gives PageFault Protection 1 0x15 4
+    ∷ writeMode 7 gives Done
+    ∷ translate 2 0x28000000000 gives PageFault NotPresent 3 0 2
+    ∷ translate 5 0x200000000 gives PageFault Reserved 3 0xD 2
+    ∷ translate 5 0x5000 gives PageFault Protection 1 5 4
+    ∷ []) []
     -- write protect, that of now: off, it lets a supervisor write, and no user
     ∷ then
     (translate 1 0x6000 gives PageFault Protection 1 3 4

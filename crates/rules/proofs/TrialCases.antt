@@ -1,4 +1,5 @@
--- The trial cases that document 01 marks P, in its order, as one list under one claim, what memory then holds included.
+-- The trial cases that document 01 marks P, in its order, as one list under one claim, what memory then holds included; the fetch with NXE off as
+-- request W-201 has it.
 use mathlib.Core.Path.{refl}
 use mathlib.Core.List.{List, [], _∷_, _++_}
 use Rattle.rules.specs.Image.{encode, decode}
@@ -26,7 +27,7 @@ cases =
     ∷ after []
     (then (translate 3 0x3000 gives PageFault NotPresent 1 4 4 ∷ []) []
     ∷ then (translate 5 0x3000 gives PageFault NotPresent 1 0x14 4 ∷ []) []
-    ∷ then (writeMode 7 gives Done ∷ translate 5 0x3000 gives PageFault NotPresent 1 0x14 4 ∷ []) [] ∷ [])
+    ∷ then (writeMode 7 gives Done ∷ translate 5 0x3000 gives PageFault NotPresent 1 4 4 ∷ []) [] ∷ [])
     ∷ trial (translate 0 0x4000 gives PageFault Reserved 1 9 4 ∷ []) []
     ∷ trial (translate 0 0x212345 gives Address 0x612345 0x200000 3 ∷ []) []
     ∷ trial (translate 1 0x40000010 gives Address 0x40000010 0x40000000 2 ∷ []) (0x2008 holds 0x400000E3 ∷ [])

@@ -1,9 +1,10 @@
--- The answer: "Calls and the answer record" and the fault code of document 01.
+-- The answer: "Calls and the answer record" and the fault code of document 01, its fetch bit as request W-201 has it.
 use Prim.Native.Nat.{ℕ, _+_, _*_, _%_}
-use mathlib.Core.Bool.{Bool, true, false}
+use mathlib.Core.Bool.{Bool, true, false, _&&_}
 use mathlib.Core.List.{List, [], _∷_}
 use Rattle.rules.specs.Bits.{one, bytesOfAll}
 use Rattle.rules.specs.Sizes.{sizeAt}
+use Rattle.rules.specs.Image.{nxe}
 use Rattle.rules.specs.declared.Control.{Control}
 use Rattle.rules.specs.declared.Access.{Access}
 use Rattle.rules.specs.declared.Cause.{Cause}
@@ -13,7 +14,8 @@ use Rattle.rules.specs.declared.Found.the-variants.{Page, Fault}
 use Rattle.rules.specs.declared.Answer.{Answer}
 use Rattle.rules.specs.declared.Answer.the-variants.{Address, PageFault, Refused, Done}
 
--- ---- the code of a page fault, from bit 0 up: something was mapped; a write; by the user; a reserved bit was set; a fetch
+-- ---- the code of a page fault, from bit 0 up: something was mapped; a write; by the user; a reserved bit was set; a fetch,
+-- if the flags let it tell one
 abbrev pub wasPresent : Cause → Bool
 wasPresent NotPresent = false
 wasPresent Reserved = true
@@ -24,10 +26,13 @@ wasReserved NotPresent = false
 wasReserved Reserved = true
 wasReserved Protection = false
 
--- control is not asked yet: it waits for request W-201
+-- it tells a fetch with NXE on, else none
+abbrev pub tellsFetch : ℕ → Bool
+tellsFetch flags = nxe flags
+
 abbrev pub code : Control → Access → Cause → ℕ
 code c k cause =
-    one (wasPresent cause) + 2 * one (k .write) + 4 * one (k .user) + 8 * one (wasReserved cause) + 16 * one (k .fetch)
+    one (wasPresent cause) + 2 * one (k .write) + 4 * one (k .user) + 8 * one (wasReserved cause) + 16 * one (k .fetch && tellsFetch (c .flags))
 
 -- what is answered for what the walk found: the place in the page that the address names, or the fault
 abbrev pub answerOf : Control → Access → ℕ → Found → Answer

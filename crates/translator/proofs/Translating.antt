@@ -11,7 +11,7 @@ use Rattle.rules.specs.Image.{Image, encode, decode, control, pg, pcid, tagOf, 
 use Rattle.rules.specs.Memory.{Memory, entryAt}
 use Rattle.rules.specs.Walk.{Walked, walk, reachIn}
 use Rattle.rules.specs.Buffer.{matches, hit, miss, find, serves, hitAddress, dropped, filled}
-use Rattle.rules.specs.Answers.{code, answerOf}
+use Rattle.rules.specs.Answers.{tellsFetch, code, answerOf}
 use Rattle.rules.specs.Refusals.{translate, refusal}
 use Rattle.rules.specs.Calls.{After, accessOf, served, servedIf, walked, looked, translated, Outcome, encoded, accepted, byNumber}
 use Rattle.rules.specs.declared.Size.{Size}
@@ -95,26 +95,29 @@ finish-page f base level n r g d z b b′ k a h e size i =
     let l : z .level ≡ level = ap (λ (x : Size). x .level) size ∙ level-at level (q .1 .0) (q .1 .1) in
     record {
       image = i ∙ ap (λ (x : ℕ). encode (filled (decode b) a (Page base x r g d n))) l ∙ ap (λ (x : Found). encode (filled (decode b) a x)) (sym e);
-      answer = λ c. rw (e, size);
+      answer = rw (e, size);
     }
 
-pub finish-fault : (f : Found) (cause : Cause) (level n m : ℕ) (b : List ℕ) (k : Access) (a : ℕ) → f ≡ Fault cause level n → IsImage b
-    → ((c : Control) → m ≡ code c k cause) → Finishes b b k a f (PageFault cause level m n)
-finish-fault f cause level n m b k a e u h = record { image = rw e (sym (u .says)); answer = λ c. rw (e, ← h c) }
+pub finish-fault : (f : Found) (cause : Cause) (level n m w : ℕ) (told : Bool) (b : List ℕ) (k : Access) (a : ℕ) → f ≡ Fault cause level n → IsImage b
+    → w ≡ wordAt b 8 → told ≡ tellsFetch w → ((c : Control) → told ≡ tellsFetch (c .flags) → m ≡ code c k cause)
+    → Finishes b b k a f (PageFault cause level m n)
+finish-fault f cause level n m w told b k a e u hw ht h =
+    let m-is : m ≡ code (control (decode b)) k cause = h (control (decode b)) (ht ∙ ap tellsFetch (hw ∙ sym (flags-at b))) in
+    record { image = rw e (sym (u .says)); answer = rw (e, ← m-is) }
 
-pub misses : (b b′ : List ℕ) (mem mem′ : Memory) (c : Control) (t n : ℕ) (k : Access) (a : ℕ) (f : Found) (r : Answer) → c ≡ control (decode b)
-    → k ≡ accessOf t → n ≡ neededOf (c .flags) (accessOf t) → Walks c n a mem mem′ f → Finishes b b′ k a f r
+pub misses : (b b′ : List ℕ) (mem mem′ : Memory) (c : Control) (t n a : ℕ) (f : Found) (r : Answer) → c ≡ control (decode b)
+    → n ≡ neededOf (c .flags) (accessOf t) → Walks c n a mem mem′ f → Finishes b b′ (accessOf t) a f r
     → Encodes (missed (decode b) mem (accessOf t) a) b′ mem′ r
-misses b b′ mem mem′ c t n k a f r e y n-is w h =
-    subst (λ (x : Access). Encodes (missed (decode b) mem x a) b′ mem′ r) y
-    (let v : _≡_ {A = Walked} (record { found = f; memory = mem′ }) (walk (control (decode b)) k a mem) =
-    w .walks k (n-is ∙ ap (neededOf (c .flags)) (sym y)) ∙ ap (λ (x : Control). walk x k a mem) e in
+misses b b′ mem mem′ c t n a f r e n-is w h =
+    let k : Access = accessOf t in
+    let v : _≡_ {A = Walked} (record { found = f; memory = mem′ }) (walk (control (decode b)) k a mem) =
+    w .walks k n-is ∙ ap (λ (x : Control). walk x k a mem) e in
     let q : f ≡ walk (control (decode b)) k a mem .found = ap (λ (x : Walked). x .found) v in
     record {
-      answer = h .answer (control (decode b)) ∙ ap (answerOf (control (decode b)) k a) q;
+      answer = h .answer ∙ ap (answerOf (control (decode b)) k a) q;
       image = h .image ∙ ap (λ (x : Found). encode (filled (decode b) a x)) q;
       memory = ap (λ (x : Walked). x .memory) v;
-    })
+    }
 
 -- ---- a held page: one of the hundred slots
 module _ (b : List ℕ) (a i l : ℕ) (o : Place) (looks : Looks b a o) (e : o ≡ At i l) where

@@ -9,7 +9,6 @@ use Rattle.rules.specs.Buffer.{filled}
 use Rattle.rules.specs.Answers.{answerOf}
 use Rattle.rules.specs.Refusals.{Request}
 use Rattle.rules.specs.Calls.{After, Outcome, call}
-use Rattle.rules.specs.declared.Control.{Control}
 use Rattle.rules.specs.declared.Access.{Access}
 use Rattle.rules.specs.declared.Found.{Found}
 use Rattle.rules.specs.declared.Found.the-variants.{Page, Fault}
@@ -53,4 +52,4 @@ InRange (Fault cause level n) = Unit {0}
 -- a finding is filled into the image, and answered
 pub record Finishes (b b′ : List ℕ) (k : Access) (a : ℕ) (f : Found) (r : Answer) : Type 0 where
   pub image : b′ ≡ encode (filled (decode b) a f)
-  pub answer : (c : Control) → r ≡ answerOf c k a f
+  pub answer : r ≡ answerOf (control (decode b)) k a f

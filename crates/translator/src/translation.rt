@@ -12,7 +12,6 @@ ghost use Rattle.numbers.specs.Needs.{IsPcid};
 ghost use Rattle.translator.specs.Contract.{Translates, Usable, Encodes, missed as missedOf, InRange, Finishes};
 use buffer::look;
 use buffer::look::Place;
-use rules::Access;
 use rules::Answer;
 use rules::Control;
 use rules::Found;
@@ -56,9 +55,9 @@ fn keep(
 }
 
 // What a walk found is answered; a page is kept as well.
-fn finish(image: &mut [u8], pcid: u64, k: Access, a: u64, f: Found) -> Answer
-    requires { ⌜ IsImage (now image) × (IsPcid (now image) pcid × InRange f) ⌝ }
-    ensures { λ r. ⌜ Finishes (now (image .entry)) (now (image .exit)) k a f r ⌝ }
+fn finish(image: &mut [u8], pcid: u64, kind: u64, a: u64, f: Found) -> Answer
+    requires { ⌜ IsImage (now image) × (IsPcid (now image) pcid × ((kind ≤ 5) × InRange f)) ⌝ }
+    ensures { λ r. ⌜ Finishes (now (image .entry)) (now (image .exit)) (accessOf kind) a f r ⌝ }
 {
     match f {
         Found::Page {
@@ -76,7 +75,8 @@ fn finish(image: &mut [u8], pcid: u64, k: Access, a: u64, f: Found) -> Answer
             Answer::Address { value, size, read }
         }
         Found::Fault { cause, level, read } => {
-            let code = numbers::code_of(k, cause);
+            let told = numbers::tells_fetch(words::read_word(image, 8));
+            let code = numbers::code_of(told, kind, cause);
             Answer::PageFault {
                 cause,
                 level,
@@ -92,11 +92,10 @@ fn missed(image: &mut [u8], mem: &mut [u8], pcid: u64, kind: u64, a: u64) -> Ans
     requires { ⌜ Usable (now image) × ((length (now mem) % 8 ≡ 0) × (IsPcid (now image) pcid × (kind ≤ 5))) ⌝ }
     ensures { λ r. ⌜ Encodes (missedOf (decode (now (image .entry))) (now (mem .entry)) (accessOf kind) a) (now (image .exit)) (now (mem .exit)) r ⌝ }
 {
-    let k = numbers::access_of(kind);
     let c = control_of(image, pcid);
     let need = numbers::needed(c.flags, kind);
     let f = walk::walk(mem, c, need, a);
-    finish(image, pcid, k, a, f)
+    finish(image, pcid, kind, a, f)
 }
 
 // With paging on.

@@ -71,19 +71,14 @@ fn write_unprotected(t: Tally) -> Tally {
     )
 }
 
-// The fault code of a fetch has its bit 4 with NXE off too.
+// With NXE off a fault's code does not tell a fetch.
 fn fetch_without_xd(t: Tally) -> Tally {
     let mut image = guest::image();
     let mut mem = guest::memory();
     let mode = guest::write_mode(&mut image, guest::FLAGS_WITHOUT_NXE);
     let t = report::call(t, b"NXE off", report::done(), mode);
     let fetch = guest::translate(&mut image, &mut mem, 5, 0x3000);
-    report::call(
-        t,
-        b"NXE off, kind 5 at 0x3000",
-        report::fault(0x14, 4),
-        fetch,
-    )
+    report::call(t, b"NXE off, kind 5 at 0x3000", report::fault(4, 4), fetch)
 }
 
 // The rights of pages, and entries that are not there or have a reserved bit.

@@ -1,4 +1,4 @@
--- One way for each cause.
+-- What is told of the access for each of six kinds; one way for each cause.
 use Rattle.numbers.proofs.Laws.{not-present, reserved, protection}
 use borrow.Author.Needs.{needs}
 use Rattle.numbers.proofs.code_of.Statement.{statement}
@@ -7,26 +7,17 @@ use Rattle.numbers.proofs.code_of.Tie as tie
 one-requires : tie.Need-one-requires
 one-requires c κs = search needs
 
+mul-kinds : tie.Need-mul-kinds
+mul-kinds c = search needs
+
+add-kinds : tie.Need-add-kinds
+add-kinds c = search needs
+
 mul-asked : tie.Need-mul-asked
 mul-asked c = search needs
 
-one-requires-2 : tie.Need-one-requires-2
-one-requires-2 c κs = search needs
-
-mul-asked-2 : tie.Need-mul-asked-2
-mul-asked-2 c = search needs
-
-add-asked : tie.Need-add-asked
-add-asked c = search needs
-
-one-requires-3 : tie.Need-one-requires-3
-one-requires-3 c κs = search needs
-
-mul-asked-3 : tie.Need-mul-asked-3
-mul-asked-3 c = search needs
-
-add-asked-2 : tie.Need-add-asked-2
-add-asked-2 c = search needs
+shr-asked : tie.Need-shr-asked
+shr-asked c = search needs
 
 enum-told : tie.Need-enum-told
 enum-told c = search needs
@@ -57,13 +48,10 @@ code-of-spec =
     tie.close
     (tie.spec
     one-requires
+    mul-kinds
+    add-kinds
     mul-asked
-    one-requires-2
-    mul-asked-2
-    add-asked
-    one-requires-3
-    mul-asked-3
-    add-asked-2
+    shr-asked
     enum-told
     enum-told-2
     add-result

@@ -23,6 +23,12 @@ add-value c = search page-sum
 enum-known-f-2 : tie.Need-enum-known-f-2
 enum-known-f-2 c = search needs
 
+read-word-requires : tie.Need-read-word-requires
+read-word-requires c κs = search needs
+
+tells-fetch-requires : tie.Need-tells-fetch-requires
+tells-fetch-requires c κs = search needs
+
 code-of-requires : tie.Need-code-of-requires
 code-of-requires c κs = search needs
 
@@ -31,6 +37,9 @@ same-length c = search needs
 
 returns : tie.Need-returns
 returns c = search finish-page
+
+same-length-2 : tie.Need-same-length-2
+same-length-2 c = search needs
 
 returns-2 : tie.Need-returns-2
 returns-2 c = search finish-fault
@@ -45,7 +54,10 @@ finish-spec =
     rem-value
     add-value
     enum-known-f-2
+    read-word-requires
+    tells-fetch-requires
     code-of-requires
     same-length
     returns
+    same-length-2
     returns-2)

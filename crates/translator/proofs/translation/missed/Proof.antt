@@ -4,9 +4,6 @@ use borrow.Author.Needs.{needs}
 use Rattle.translator.proofs.translation.missed.Statement.{statement}
 use Rattle.translator.proofs.translation.missed.Tie as tie
 
-access-of-requires : tie.Need-access-of-requires
-access-of-requires c κs = search needs
-
 control-of-requires : tie.Need-control-of-requires
 control-of-requires c κs = search needs
 
@@ -17,7 +14,7 @@ walk-requires : tie.Need-walk-requires
 walk-requires c κs = search walk-ready
 
 finish-requires : tie.Need-finish-requires
-finish-requires c κs = (search needs, (search needs, search found-fits))
+finish-requires c κs = (search needs, (search needs, (search needs, search found-fits)))
 
 same-length : tie.Need-same-length
 same-length c = search needs
@@ -32,7 +29,6 @@ pub missed-spec : {M : Type 1} → statement M
 missed-spec =
     tie.close
     (tie.spec
-    access-of-requires
     control-of-requires
     needed-requires
     walk-requires
