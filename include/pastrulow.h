@@ -32,6 +32,7 @@ extern "C" {
  * The version of the calls, raised whenever the parameters or the meaning of an exported call change. The archive has the same
  * number, and a host should compare the two at its start. This does not help a host that does not ask; and nothing checks the
  * declarations below against the archive.
+ *   2: a fault's code has PASTRULOW_CODE_FETCH only while NXE is on; in version 1 every fetch had it
  */
 #define PASTRULOW_VERSION UINT64_C(2)
 uint64_t pastrulow_version(void);

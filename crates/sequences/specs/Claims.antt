@@ -36,7 +36,7 @@ plain s mem k a = walkOnly (pg (s .flags)) s mem (accessOf k) a
 
 -- the same of another moment, as judged now: which page the walk reaches goes by the memory and the control state s of that moment; whether the access
 -- may use it goes by `now`, the image of the call. Judging reads write protect and nothing else of control: this is seen in the rules' `allows`, where `wp` is
--- all that is asked of it, and in `code`, which does not ask
+-- all that is asked of it. A fault's code goes by `now` as well, whatever it asks: of another moment only an address is claimed (`Gives`)
 abbrev pub judgedBy : Image → Bool → Image → Memory → Access → ℕ → Answer
 judgedBy now true s mem k a =
     let w : Reach = reachIn mem (control s) a in
