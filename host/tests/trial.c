@@ -1,4 +1,4 @@
-/* Every trial case of document 01, through the archive. */
+/* Every trial case of the paper, through the archive. */
 #include <inttypes.h>
 #include <stdio.h>
 #include <string.h>

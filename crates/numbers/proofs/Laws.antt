@@ -7,6 +7,7 @@ use native.Mathlib.Omega.{arith}
 use native.Mathlib.Nat.{mod-lt, div-add-mod}
 use lib.Dec.{eqb}
 use lib.Bits.{bitAnd}
+use borrow.Author.Tests.{eqb-true}
 use Rattle.rules.specs.Bits.{isOn, one, wordAt}
 use Rattle.rules.specs.Image.{wp}
 use Rattle.rules.specs.Buffer.{serves}
@@ -16,21 +17,34 @@ use Rattle.rules.specs.declared.Control.{Control}
 use Rattle.rules.specs.declared.Access.{Access}
 use Rattle.rules.specs.declared.Cause.{Cause}
 use Rattle.rules.specs.declared.Cause.the-variants.{NotPresent, Reserved, Protection}
-use Rattle.rules.proofs.BoolLaws.{same}
+use Rattle.rules.proofs.BoolLaws.{and-left, and-right, same}
 use Rattle.rules.proofs.BitLaws.{one-le, on-one}
 use Rattle.rules.proofs.PlaceLaws.{flags-at, cr3-at}
 use Rattle.words.proofs.Masks.{and-one, and-flag}
 use Rattle.numbers.specs.Needs.{IsPcid, neededFrom, neededOf}
 
--- ---- what is said of a kind, said of each of the six
-by-kind : (P : ℕ → Type 0) → P 0 → P 1 → P 2 → P 3 → P 4 → P 5 → (k : ℕ) → k ≤ 5 → P k
-by-kind P r w x ur uw ux zero h = r
-by-kind P r w x ur uw ux (suc zero) h = w
-by-kind P r w x ur uw ux (suc (suc zero)) h = x
-by-kind P r w x ur uw ux (suc (suc (suc zero))) h = ur
-by-kind P r w x ur uw ux (suc (suc (suc (suc zero)))) h = uw
-by-kind P r w x ur uw ux (suc (suc (suc (suc (suc zero))))) h = ux
-by-kind P r w x ur uw ux (suc (suc (suc (suc (suc (suc k)))))) h = absurd (omega arith)
+-- ---- numbers that are alike for each of the six kinds, a flag off or on: this is computed of the constants that the code has
+abbrev below : ℕ → (ℕ → Bool) → Bool
+below zero p = true
+below (suc n) p = p zero && below n (λ k. p (suc k))
+
+below-at : (n : ℕ) (p : ℕ → Bool) → below n p ≡ true → (k : ℕ) → k < n → p k ≡ true
+below-at zero p h k l = absurd (omega arith)
+below-at (suc n) p h zero l = and-left (p zero) (below n (λ k. p (suc k))) h
+below-at (suc n) p h (suc k) l = below-at n (λ j. p (suc j)) (and-right (p zero) (below n (λ j. p (suc j))) h) k (omega arith)
+
+abbrev alikeFor : (ℕ → ℕ → ℕ) → (Bool → Access → ℕ) → ℕ → Bool → Bool
+alikeFor p q k t = eqb (p (one t) k) (q t (accessOf k))
+
+abbrev alike : (ℕ → ℕ → ℕ) → (Bool → Access → ℕ) → Bool
+alike p q = below 6 (λ k. alikeFor p q k false && alikeFor p q k true)
+
+alike-at : (p : ℕ → ℕ → ℕ) (q : Bool → Access → ℕ) → alike p q ≡ true → (t : Bool) (k : ℕ) → k ≤ 5 → p (one t) k ≡ q t (accessOf k)
+alike-at p q h t k l = eqb-true (p (one t) k) (q t (accessOf k)) (go t (below-at 6 (λ k. alikeFor p q k false && alikeFor p q k true) h k (omega arith)))
+  where
+    go : (t : Bool) → (alikeFor p q k false && alikeFor p q k true) ≡ true → alikeFor p q k t ≡ true
+    go false e = and-left (alikeFor p q k false) (alikeFor p q k true) e
+    go true e = and-right (alikeFor p q k false) (alikeFor p q k true) e
 
 -- ---- the current PCID
 pub pcid-on : (b : List ℕ) (f r : ℕ) (k : Bool) → f ≡ wordAt b 8 → r ≡ wordAt b 16 → k ≡ isOn 3 f → k ≡ true
@@ -42,13 +56,12 @@ pcid-on b f r k hf hr hk t =
 pub pcid-off : (b : List ℕ) (f : ℕ) (k : Bool) → f ≡ wordAt b 8 → k ≡ isOn 3 f → k ≡ false → IsPcid b 0
 pcid-off b f k hf hk t = record { current = rw (flags-at b, ← hf, ← hk, t); low = omega arith }
 
--- ---- rights: what an access needs is read off one number, and is a conjunction of the datum's bits
-needed-by : (p : Bool) (k : ℕ) → k ≤ 5 → (0x6B2480 + one p * 16) / 2 ^ (4 * k) % 16 ≡ neededFrom p (accessOf k)
-needed-by true = by-kind (λ (k : ℕ). (0x6B2480 + 16) / 2 ^ (4 * k) % 16 ≡ neededFrom true (accessOf k)) refl refl refl refl refl refl
-needed-by false = by-kind (λ (k : ℕ). 0x6B2480 / 2 ^ (4 * k) % 16 ≡ neededFrom false (accessOf k)) refl refl refl refl refl refl
+-- ---- rights: what an access needs is four bits of a number, and is a conjunction of the datum's bits
+abbrev needAt : ℕ → ℕ → ℕ → ℕ → ℕ
+needAt m w x k = (m + x * w) / 2 ^ (4 * k) % 16
 
-pub needed-is : (f k : ℕ) → k ≤ 5 → (0x6B2480 + f / 2 % 2 * 16) / 2 ^ (4 * k) % 16 ≡ neededOf f (accessOf k)
-needed-is f k h = ap (λ (x : ℕ). (0x6B2480 + x * 16) / 2 ^ (4 * k) % 16) (on-one 1 f) ∙ needed-by (wp f) k h
+pub needed-is : (m w f k : ℕ) → alike (needAt m w) neededFrom ≡ true → k ≤ 5 → needAt m w (f / 2 % 2) k ≡ neededOf f (accessOf k)
+needed-is m w f k h l = ap (λ (x : ℕ). needAt m w x k) (on-one 1 f) ∙ alike-at (needAt m w) neededFrom h (wp f) k l
 
 pub has-bits : (d : ℕ) (w x u t : Bool)
     → bitAnd d (one w * 8 + (one x * 4 + (one u * 2 + one t))) ≡ one (w && isOn 3 d) * 8 + (one (x && isOn 2 d) * 4 + (one (u && isOn 1 d) * 2 + one (t && isOn 0 d)))
@@ -81,26 +94,22 @@ base-fits d l h = omega (arith, div-add-mod (d % 2 ^ 52) l)
 pub sum-fits : (d a l : ℕ) → 1 ≤ l → l ≤ 2 ^ 30 → d % 2 ^ 52 / l * l + a % l < 2 ^ 64
 sum-fits d a l h g = omega (arith, div-add-mod (d % 2 ^ 52) l, mod-lt a h)
 
--- ---- the code of a fault: what it tells of the access is read off one number, and the cause adds its bits
-abbrev toldOf : Bool → Access → ℕ
-toldOf told k = 2 * one (k .write) + 4 * one (k .user) + 16 * one (k .fetch && told)
+-- ---- the code of a fault: what it tells of the access is eight bits of a number, and the cause adds its own
+abbrev askedOf : Bool → Access → ℕ
+askedOf told k = 2 * one (k .write) + 4 * one (k .user) + 16 * one (k .fetch && told)
 
-abbrev readOff : ℕ → ℕ → ℕ
-readOff x k = (0x040604000200 + x * 0x100000100000) / 2 ^ (8 * k) % 256
+abbrev askedAt : ℕ → ℕ → ℕ → ℕ → ℕ
+askedAt m w x k = (m + x * w) / 2 ^ (8 * k) % 256
 
-told-by : (t : Bool) (k : ℕ) → k ≤ 5 → readOff (one t) k ≡ toldOf t (accessOf k)
-told-by true = by-kind (λ (k : ℕ). readOff 1 k ≡ toldOf true (accessOf k)) refl refl refl refl refl refl
-told-by false = by-kind (λ (k : ℕ). readOff 0 k ≡ toldOf false (accessOf k)) refl refl refl refl refl refl
+module _ (m w : ℕ) (told : Bool) (k : ℕ) (cause : Cause) (x : ℕ) (all : alike (askedAt m w) askedOf ≡ true) (low : k ≤ 5) (hx : x ≡ one told) where
+  asked-is : askedAt m w x k ≡ askedOf told (accessOf k)
+  asked-is = ap (λ (y : ℕ). askedAt m w y k) hx ∙ alike-at (askedAt m w) askedOf all told k low
 
-module _ (told : Bool) (k : ℕ) (cause : Cause) (x : ℕ) (low : k ≤ 5) (hx : x ≡ one told) where
-  told-is : readOff x k ≡ toldOf told (accessOf k)
-  told-is = ap (λ (y : ℕ). readOff y k) hx ∙ told-by told k low
+  pub not-present : cause ≡ NotPresent → (c : Control) → told ≡ tellsFetch (c .flags) → askedAt m w x k ≡ code c (accessOf k) cause
+  not-present e c t = rw (e, ← t, asked-is) (omega arith)
 
-  pub not-present : cause ≡ NotPresent → (c : Control) → told ≡ tellsFetch (c .flags) → readOff x k ≡ code c (accessOf k) cause
-  not-present e c t = rw (e, ← t, told-is) (omega arith)
+  pub reserved : cause ≡ Reserved → (c : Control) → told ≡ tellsFetch (c .flags) → 9 + askedAt m w x k ≡ code c (accessOf k) cause
+  reserved e c t = rw (e, ← t, asked-is) (omega arith)
 
-  pub reserved : cause ≡ Reserved → (c : Control) → told ≡ tellsFetch (c .flags) → 9 + readOff x k ≡ code c (accessOf k) cause
-  reserved e c t = rw (e, ← t, told-is) (omega arith)
-
-  pub protection : cause ≡ Protection → (c : Control) → told ≡ tellsFetch (c .flags) → 1 + readOff x k ≡ code c (accessOf k) cause
-  protection e c t = rw (e, ← t, told-is) (omega arith)
+  pub protection : cause ≡ Protection → (c : Control) → told ≡ tellsFetch (c .flags) → 1 + askedAt m w x k ≡ code c (accessOf k) cause
+  protection e c t = rw (e, ← t, asked-is) (omega arith)

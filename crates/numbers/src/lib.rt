@@ -66,7 +66,7 @@ pub fn hit_address(d: u64, a: u64, size: u64) -> u64
     d % 0x10_0000_0000_0000 / size * size + a % size
 }
 
-// Whether a fault's code tells a fetch.
+// Whether a fault's code tells a fetch under these flags.
 pub fn tells_fetch(flags: u64) -> bool
     ensures { λ b. ⌜ b ≡ tellsFetch flags ⌝ }
 {

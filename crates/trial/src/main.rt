@@ -1,4 +1,4 @@
-// Runs the trial cases of document 01 through the calls, and writes a line for each thing that a case states.
+// Runs the trial cases of the paper through the calls, and writes a line for each thing that a case states.
 // Where the paper gives no number of entries read, the rules' number is expected: the levels that the walk reaches.
 mod guest; // guest.rt: the trial guest, and the calls on it
 mod report; // report.rt: what a call came to, and the lines that are written
