@@ -32,7 +32,7 @@ unfolding encode
 encode-tail s = zero-tail 256 204 (encode s) (encode-length s) (omega arith) ∙ ap allZero (sym (all-drop 204 (wordsIn s)))
 
 -- ---- zeros
-zeros-at : (n i : ℕ) → _≡_ {A = ℕ} (getD (replicate n 0) i 0) 0
+pub zeros-at : (n i : ℕ) → _≡_ {A = ℕ} (getD (replicate n 0) i 0) 0
 zeros-at zero i = refl
 zeros-at (suc n) zero = refl
 zeros-at (suc n) (suc i) = zeros-at n i
@@ -129,7 +129,7 @@ unfolding decode
 sound-decode b h z = words-sound (wordsOf 256 b) (words-are 256 b h) z
 
 -- ---- where words stand in the bytes
-put-bytes : (m n : ℕ) (us ws : List ℕ)
+pub put-bytes : (m n : ℕ) (us ws : List ℕ)
     → bytesOfAll (take m ws ++ (us ++ drop n ws)) ≡ take (8 * m) (bytesOfAll ws) ++ (bytesOfAll us ++ drop (8 * n) (bytesOfAll ws))
 put-bytes m n us ws = simp (all-append, all-take, all-drop)
 

@@ -1,0 +1,10 @@
+pub mod JournalLaws
+pub mod StepLaws
+pub mod FaultLaws
+pub mod HistoryLaws
+pub mod Whole
+pub mod Cases
+pub mod Refusing
+pub mod Finding
+pub mod Reporting
+pub mod Unique
