@@ -31,7 +31,7 @@ test: c-tests
 	@rt ci
 
 c-tests: tools $(addprefix $(HOST)/,demo demo-c++ demo-installed demo-later header header-bytes trial lengths differential \
-    vectors_bochs bochs.txt vectors_sequences sequences.txt vectors_linux linux-guest.bin linux-guest.txt)
+    journal vectors_bochs bochs.txt vectors_sequences sequences.txt vectors_linux linux-guest.bin linux-guest.txt)
 	$(RUN) $(HOST)/demo >$(HOST)/demo.out
 	$(RUN) $(HOST)/demo-c++ >$(HOST)/demo-c++.out
 	cmp $(HOST)/demo.out $(HOST)/demo-c++.out
@@ -47,6 +47,7 @@ c-tests: tools $(addprefix $(HOST)/,demo demo-c++ demo-installed demo-later head
 	$(RUN) $(HOST)/vectors_sequences $(HOST)/sequences.txt
 	$(RUN) $(HOST)/vectors_linux $(HOST)/linux-guest.bin $(HOST)/linux-guest.txt
 	$(RUN) $(HOST)/differential
+	$(RUN) $(HOST)/journal
 
 # The example host; then the trial program, which rt proves and runs unless nothing has changed since: the log has what
 # it wrote.
@@ -62,8 +63,9 @@ install: $(ARCHIVE)
 	sed -e 's|@PREFIX@|$(PREFIX)|' -e 's|@LIBDIR@|$(libdir)|' -e 's|@INCLUDEDIR@|$(includedir)|' \
 	    -e 's|@VERSION@|$(VERSION)|' host/pastrulow.pc.in >"$(DESTDIR)$(libdir)/pkgconfig/pastrulow.pc"
 
-bench: bench-tools $(HOST)/bench-archive $(HOST)/bench-baseline $(HOST)/differential-baseline $(HOST)/libcount.so
+bench: bench-tools $(addprefix $(HOST)/,bench-archive bench-baseline differential-baseline journal-baseline libcount.so)
 	@$(RUN) $(HOST)/differential-baseline 1 0 800
+	@$(RUN) $(HOST)/journal-baseline 1 0 4000
 	@sh bench/run.sh $(HOST)
 
 tools:
@@ -81,6 +83,8 @@ $(HOST):
 TEST := host/tests
 MODEL := $(addprefix $(TEST)/model_,image.c walk.c buffer.c calls.c translate.c)
 DIFFERENTIAL := $(addprefix $(TEST)/,differential.c call.c lent.c guest.c random.c events.c) $(MODEL)
+JOURNAL := $(addprefix $(TEST)/,journal.c journal_history.c journal_made.c model_journal.c model_history.c model_image.c \
+    events.c machine.c random.c)
 HEADERS := $(wildcard include/*.h $(TEST)/*.h)
 
 $(HOST)/demo: host/demo.c $(HEADERS) $(ARCHIVE) | $(HOST)
@@ -126,6 +130,9 @@ $(HOST)/vectors_%: $(TEST)/vectors_%.c $(TEST)/machine.c $(TEST)/vectors.c $(HEA
 $(HOST)/differential: $(DIFFERENTIAL) $(HEADERS) $(ARCHIVE) | $(HOST)
 	$(C) $(CFLAGS) -static -o $@ $(DIFFERENTIAL) $(ARCHIVE)
 
+$(HOST)/journal: $(JOURNAL) $(HEADERS) $(ARCHIVE) | $(HOST)
+	$(C) $(CFLAGS) -static -o $@ $(JOURNAL) $(ARCHIVE)
+
 $(HOST)/%.txt: host/vectors/%.txt.xz | $(HOST)
 	xz -dc $< >$@
 
@@ -134,17 +141,21 @@ $(HOST)/%.bin: host/vectors/%.bin.xz | $(HOST)
 
 # Plain C of the same interface. Its chains of ors are shortest as they are written, and memset is the C library's, as the
 # archive's is.
-$(HOST)/baseline.o: bench/baseline.c bench/baseline_parts.h include/pastrulow.h | $(HOST)
-	$(C) -std=c11 -O3 -fno-tree-reassoc -fno-pie -mstringop-strategy=libcall $(WARN) -Iinclude -c -o $@ bench/baseline.c
+BASELINE := $(HOST)/baseline.o $(HOST)/baseline_journal.o
+$(BASELINE): $(HOST)/%.o: bench/%.c $(wildcard bench/*.h) include/pastrulow.h | $(HOST)
+	$(C) -std=c11 -O3 -fno-tree-reassoc -fno-pie -mstringop-strategy=libcall $(WARN) -Iinclude -c -o $@ bench/$*.c
 
-$(HOST)/differential-baseline: $(DIFFERENTIAL) $(HEADERS) $(HOST)/baseline.o
-	$(C) $(CFLAGS) -static -o $@ $(DIFFERENTIAL) $(HOST)/baseline.o
+$(HOST)/differential-baseline: $(DIFFERENTIAL) $(HEADERS) $(BASELINE)
+	$(C) $(CFLAGS) -static -o $@ $(DIFFERENTIAL) $(BASELINE)
+
+$(HOST)/journal-baseline: $(JOURNAL) $(HEADERS) $(BASELINE)
+	$(C) $(CFLAGS) -static -o $@ $(JOURNAL) $(BASELINE)
 
 $(HOST)/bench-archive: bench/bench.c include/pastrulow.h $(ARCHIVE) | $(HOST)
 	$(C) $(CFLAGS) -static -o $@ bench/bench.c $(ARCHIVE)
 
-$(HOST)/bench-baseline: bench/bench.c include/pastrulow.h $(HOST)/baseline.o
-	$(C) $(CFLAGS) -static -o $@ bench/bench.c $(HOST)/baseline.o
+$(HOST)/bench-baseline: bench/bench.c include/pastrulow.h $(BASELINE)
+	$(C) $(CFLAGS) -static -o $@ bench/bench.c $(BASELINE)
 
 # The plugin runs in qemu-user itself, so it is compiled for this machine.
 $(HOST)/libcount.so: bench/count.c | $(HOST)

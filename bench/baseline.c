@@ -1,5 +1,5 @@
 /*
- * The calls of pastrulow.h in plain C, as fast as C for any x86-64 makes them: what the archive is measured against.
+ * The translator's calls in plain C, as fast as C for any x86-64 makes them: what the archive is measured against.
  * Same image, same refusals, same record. It is held to the model of the paper by the differential test; nothing is proved.
  */
 #include "baseline_parts.h"

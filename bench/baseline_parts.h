@@ -1,18 +1,11 @@
-/* Parts of the plain C that the archive is measured against: words, the image's checks, sets and slots, matches. */
+/* Parts of the translator in plain C: the answer, the image's checks, sets and slots, matches. */
 #ifndef BASELINE_PARTS_H
 #define BASELINE_PARTS_H
 
 #include <emmintrin.h>
 #include <stdbool.h>
-#include <string.h>
 
-#include "pastrulow.h"
-
-#define LIKELY(x) __builtin_expect(!!(x), 1)
-#define UNLIKELY(x) __builtin_expect(!!(x), 0)
-#define BIT(n) (UINT64_C(1) << (n))
-#define APART static __attribute__((noipa)) /* kept out of the short way through its caller, arguments as written */
-#define PART static inline __attribute__((always_inline))
+#include "baseline_words.h"
 
 /* Places in the image, in bytes. */
 enum { FLAGS_AT = 8, CR3_AT = 16, VICTIMS_AT = 24, SLOTS_AT = 32, REST_AT = 1632, SLOT = 16, SET = 64 };
@@ -31,18 +24,6 @@ static const uint8_t needs[16] = {
     0, DIRTY,            EXECUTABLE, USER, USER | WRITABLE | DIRTY, USER | EXECUTABLE, 0, 0,
     0, WRITABLE | DIRTY, EXECUTABLE, USER, USER | WRITABLE | DIRTY, USER | EXECUTABLE, 0, 0,
 };
-
-PART uint64_t load(const uint8_t *bytes)
-{
-    uint64_t word;
-    memcpy(&word, bytes, sizeof word);
-    return word;
-}
-
-PART void store(uint8_t *bytes, uint64_t word)
-{
-    memcpy(bytes, &word, sizeof word);
-}
 
 PART uint64_t answer_words(uint8_t *answer, uint64_t kind, uint64_t value, uint64_t size, uint64_t read)
 {

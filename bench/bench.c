@@ -1,9 +1,9 @@
 /*
  * One operation, many times: bench OPERATION TIMES call|empty
  *
- * Linked once with the archive and once with baseline.c. With "empty" the loop is the same, but the call goes to a function
+ * Linked once with the archive and once with the plain C. With "empty" the loop is the same, but the call goes to a function
  * that returns at once; the difference in instructions is the operation's own. "bench" alone lists the operations.
- * Before the loop the operation is made once and its record held to what is expected.
+ * Before the loop the operation is made once, and its record, or of the journal its counts, held to what is expected.
  */
 #include <inttypes.h>
 #include <stdbool.h>
@@ -13,11 +13,12 @@
 
 #include "pastrulow.h"
 
-enum { GUEST_BYTES = 24 * 1024, FLAGS = 23, ROOT = 0x1000 };
+enum { GUEST_BYTES = 24 * 1024, FLAGS = 23, ROOT = 0x1000, CODE = 4 };
 
 static _Alignas(64) uint8_t images[PASTRULOW_IMAGE_BYTES + 64], kept[PASTRULOW_IMAGE_BYTES];
 static _Alignas(64) uint8_t memory[GUEST_BYTES], tables[GUEST_BYTES];
 static _Alignas(64) uint8_t record[PASTRULOW_ANSWER_BYTES];
+static _Alignas(64) uint8_t journal[PASTRULOW_JOURNAL_BYTES], kept_journal[PASTRULOW_JOURNAL_BYTES];
 static uint8_t *image = images;
 
 struct door {
@@ -27,10 +28,12 @@ struct door {
     uint64_t (*invpcid)(uint8_t *, size_t, uint64_t, uint64_t, uint64_t, uint8_t *, size_t);
     uint64_t (*write_cr3)(uint8_t *, size_t, uint64_t, uint8_t *, size_t);
     uint64_t (*write_mode)(uint8_t *, size_t, uint64_t, uint8_t *, size_t);
+    uint64_t (*clear)(uint8_t *, size_t);
+    uint64_t (*report)(uint8_t *, size_t, uint64_t, uint64_t, uint64_t);
 };
 
-static const struct door full = {pastrulow_start,   pastrulow_translate, pastrulow_invlpg,
-                                 pastrulow_invpcid, pastrulow_write_cr3, pastrulow_write_mode};
+static const struct door full = {pastrulow_start,     pastrulow_translate,  pastrulow_invlpg,        pastrulow_invpcid,
+                                 pastrulow_write_cr3, pastrulow_write_mode, pastrulow_journal_clear, pastrulow_journal_report};
 
 /* Calls that do nothing but return: two instructions each. */
 static uint64_t no_start(uint8_t *i, size_t il, uint64_t w, uint8_t *a, size_t al)
@@ -48,18 +51,30 @@ static uint64_t no_invpcid(uint8_t *i, size_t il, uint64_t t, uint64_t p, uint64
     return (void)i, (void)il, (void)t, (void)p, (void)v, (void)a, (void)al, 0;
 }
 
-static const struct door empty = {no_start, no_translate, no_start, no_invpcid, no_start, no_start};
+static uint64_t no_clear(uint8_t *j, size_t jl)
+{
+    return (void)j, (void)jl, 0;
+}
 
-enum name { START, TRANSLATE, INVLPG, INVPCID, WRITE_CR3, WRITE_MODE };
+static uint64_t no_report(uint8_t *j, size_t jl, uint64_t v, uint64_t c, uint64_t r)
+{
+    return (void)j, (void)jl, (void)v, (void)c, (void)r, 0;
+}
+
+static const struct door empty = {no_start, no_translate, no_start, no_invpcid, no_start, no_start, no_clear, no_report};
+
+enum name { START, TRANSLATE, INVLPG, INVPCID, WRITE_CR3, WRITE_MODE, CLEAR, REPORT };
 
 /*
  * What the buffer holds before the call: nothing; the page of 0x123, 0x212345 or 0x40000010; a page in each of the 100 slots,
- * with those of 0x123 and 0x212345 in the last ways of their sets, or with none of the three, or all of them global.
+ * with those of 0x123 and 0x212345 in the last ways of their sets, or with none of the three, or all of them global. Or what
+ * the journal holds: 63 or 64 records, each with its own number as its page.
  */
-enum held { NOTHING, PAGE_4K, PAGE_2M, PAGE_1G, FULL, FULL_OF_OTHERS, FULL_OF_GLOBAL };
+enum held { NOTHING, PAGE_4K, PAGE_2M, PAGE_1G, FULL, FULL_OF_OTHERS, FULL_OF_GLOBAL, RECORDS_63, RECORDS_64 };
 
-/* What is put back before each call: nothing, the image, or with it the guest's tables, which then have no accessed bit set. */
-enum restored { NONE, IMAGE, IMAGE_AND_TABLES };
+/* What is put back before each call: nothing, the image, or with it the guest's tables, which then have no accessed bit set; or
+   the journal. */
+enum restored { NONE, IMAGE, IMAGE_AND_TABLES, JOURNAL };
 
 struct operation {
     const char *title;
@@ -67,8 +82,8 @@ struct operation {
     uint64_t numbers[3];
     enum held held;
     enum restored restored;
-    unsigned offset; /* of the image from an alignment of 64 */
-    struct pastrulow_answer expected;
+    unsigned offset;      /* of the image from an alignment of 64 */
+    uint64_t expected[4]; /* the record's words; or records held, lost, reports, and the repeats of record 63 */
 };
 
 #define FAR_ADDRESS UINT64_C(0x00007FFFFFFFF000)
@@ -96,6 +111,11 @@ static const struct operation operations[] = {
     {"INVPCID type 2, one page held", INVPCID, {2, 0, 0}, PAGE_4K, IMAGE, 0, {3, 0, 0, 0}},
     {"INVPCID type 3, one page held", INVPCID, {3, 0, 0}, PAGE_4K, IMAGE, 0, {3, 0, 0, 0}},
     {"start", START, {40, 0, 0}, NOTHING, NONE, 0, {3, 0, 0, 0}},
+    {"journal: report equal to record 0", REPORT, {0x123, CODE, ROOT}, RECORDS_64, JOURNAL, 0, {64, 0, 65, 0}},
+    {"journal: report equal to record 63", REPORT, {0x3f123, CODE, ROOT}, RECORDS_64, JOURNAL, 0, {64, 0, 65, 1}},
+    {"journal: report lost", REPORT, {0x40123, CODE, ROOT}, RECORDS_64, JOURNAL, 0, {64, 1, 65, 0}},
+    {"journal: a new fault, 63 held", REPORT, {0x3f123, CODE, ROOT}, RECORDS_63, JOURNAL, 0, {64, 0, 64, 0}},
+    {"journal clear", CLEAR, {0, 0, 0}, RECORDS_64, JOURNAL, 0, {0, 0, 0, 0}},
 };
 
 enum { OPERATIONS = sizeof operations / sizeof *operations };
@@ -115,8 +135,12 @@ static uint64_t make(const struct door *door, const struct operation *operation)
         return door->invpcid(image, image_len, n[0], n[1], n[2], record, sizeof record);
     case WRITE_CR3:
         return door->write_cr3(image, image_len, n[0], record, sizeof record);
-    default:
+    case WRITE_MODE:
         return door->write_mode(image, image_len, n[0], record, sizeof record);
+    case CLEAR:
+        return door->clear(journal, sizeof journal);
+    default:
+        return door->report(journal, sizeof journal, n[0], n[1], n[2]);
     }
 }
 
@@ -136,12 +160,23 @@ static void hold_pages(unsigned first, unsigned sets, uint64_t base, unsigned ro
     }
 }
 
+static void hold_records(unsigned records)
+{
+    pastrulow_journal_clear(journal, sizeof journal);
+    for (uint64_t page = 0; page < records; page++)
+        pastrulow_journal_report(journal, sizeof journal, page * PASTRULOW_PAGE_BYTES, CODE, ROOT);
+}
+
 static void hold(enum held held)
 {
     static const uint64_t pages[] = {[PAGE_4K] = 0x123, [PAGE_2M] = 0x212345, [PAGE_1G] = 0x40000010};
     unsigned round = held == FULL_OF_OTHERS ? 1 : 0;
     if (held == NOTHING)
         return;
+    if (held >= RECORDS_63) {
+        hold_records(held == RECORDS_63 ? 63 : 64);
+        return;
+    }
     if (held <= PAGE_1G) {
         pastrulow_translate(image, PASTRULOW_IMAGE_BYTES, memory, sizeof memory, 0, pages[held], record, sizeof record);
         return;
@@ -169,23 +204,41 @@ static void set_up(const struct operation *operation)
     hold(operation->held);
     memcpy(kept, image, image_len);
     memcpy(tables, memory, sizeof memory);
+    memcpy(kept_journal, journal, sizeof journal);
 }
 
 static void restore(enum restored restored)
 {
-    if (restored != NONE)
+    if (restored == IMAGE || restored == IMAGE_AND_TABLES)
         memcpy(image, kept, PASTRULOW_IMAGE_BYTES);
     if (restored == IMAGE_AND_TABLES)
         memcpy(memory, tables, sizeof memory);
+    if (restored == JOURNAL)
+        memcpy(journal, kept_journal, sizeof journal);
+}
+
+static bool record_is(const uint64_t *expected)
+{
+    struct pastrulow_answer answer = pastrulow_read_answer(record);
+    return answer.kind == expected[0] && answer.value == expected[1] && answer.size == expected[2] &&
+           answer.read == expected[3];
+}
+
+static bool journal_is(const uint64_t *expected)
+{
+    struct pastrulow_journal_counts counts = pastrulow_read_journal_counts(journal);
+    struct pastrulow_journal_record last = pastrulow_read_journal_record(journal, PASTRULOW_JOURNAL_RECORDS - 1);
+    return counts.held == expected[0] && counts.lost == expected[1] && counts.reports == expected[2] &&
+           last.repeats == expected[3];
 }
 
 static bool as_expected(const struct operation *operation)
 {
     uint64_t refusal = make(&full, operation);
-    struct pastrulow_answer answer = pastrulow_read_answer(record), expected = operation->expected;
-    memcpy(image, kept, PASTRULOW_IMAGE_BYTES);
-    return refusal == 0 && answer.kind == expected.kind && answer.value == expected.value && answer.size == expected.size &&
-           answer.read == expected.read;
+    bool of_journal = operation->name >= CLEAR;
+    bool right = of_journal ? journal_is(operation->expected) : record_is(operation->expected);
+    restore(of_journal ? JOURNAL : IMAGE);
+    return refusal == 0 && right;
 }
 
 int main(int count, char **arguments)

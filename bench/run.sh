@@ -1,12 +1,14 @@
 #!/bin/sh
 # Executed instructions of each operation: the archive's, plain C's, and their ratio. Usage: run.sh DIRECTORY-OF-PROGRAMS
 # Counted: a loop of 2000 less one of 1000, by a thousand, less the same with calls that only return (two instructions,
-# added again). So a number is what the call executes from its first instruction to its return, memset included.
+# added again). So a number is what the call executes from its first instruction to its return, memset included. From some
+# length on the C library's memset would be one repeated instruction, which counts once a byte: it is told to go on by stores.
 set -eu
 programs=$1
 
 total() { # program, operation, times, call or empty
-    INSTRUCTIONS="$programs/instructions" qemu-x86_64 -plugin "$programs/libcount.so" "$programs/$1" "$2" "$3" "$4" >&2
+    INSTRUCTIONS="$programs/instructions" qemu-x86_64 -E GLIBC_TUNABLES=glibc.cpu.x86_rep_stosb_threshold=0x100000 \
+        -plugin "$programs/libcount.so" "$programs/$1" "$2" "$3" "$4" >&2
     cat "$programs/instructions"
 }
 

@@ -1,6 +1,6 @@
 /*
- * An example host: the trial guest of document 01, a few accesses, an INVLPG, a CR3 switch and a saved state with PCIDs.
- * It may be copied; it compiles as C11 and as C++17. Link it with libpastrulow.a.
+ * An example host: the trial guest of document 01, a few accesses, an INVLPG, a CR3 switch and a saved state with PCIDs; and a
+ * journal of the faults. It may be copied; it compiles as C11 and as C++17. Link it with libpastrulow.a.
  */
 #include <inttypes.h>
 #include <stdio.h>
@@ -11,10 +11,14 @@
 /* The trial guest's flags. */
 #define FLAGS (PASTRULOW_PG | PASTRULOW_WP | PASTRULOW_PGE | PASTRULOW_NXE)
 
+/* How often the guest tries again. */
+#define TRIES 1000
+
 /* All that a host keeps for one processor. */
 static uint8_t image[PASTRULOW_IMAGE_BYTES];
 static uint8_t memory[6 * PASTRULOW_PAGE_BYTES];
 static uint8_t record[PASTRULOW_ANSWER_BYTES];
+static uint8_t journal[PASTRULOW_JOURNAL_BYTES];
 
 static void store(uint64_t physical, uint64_t word)
 {
@@ -70,6 +74,37 @@ static void load_state(uint64_t width, uint64_t flags, uint64_t cr3)
     write_cr3(cr3);
 }
 
+static void clear_journal(void)
+{
+    must(pastrulow_journal_clear(journal, sizeof journal), "clear");
+}
+
+/* A fault goes into the journal with the root under which it came, so before CR3 is written again. */
+static void report_fault(uint64_t address, uint64_t code)
+{
+    must(pastrulow_journal_report(journal, sizeof journal, address, code, pastrulow_root(image)), "report");
+}
+
+static struct pastrulow_answer translate(uint64_t kind, uint64_t address)
+{
+    pastrulow_translate(image, sizeof image, memory, sizeof memory, kind, address, record, sizeof record);
+    struct pastrulow_answer answer = pastrulow_read_answer(record);
+    if (answer.kind == PASTRULOW_FAULT)
+        report_fault(address, answer.value);
+    return answer;
+}
+
+static const char *const names[] = {"read", "write", "fetch", "user read", "user write", "user fetch"};
+
+/* The access as a code tells it. With NXE off it would tell a fetch as a read. */
+static const char *access_told(uint64_t code)
+{
+    uint64_t user = code & PASTRULOW_CODE_USER ? PASTRULOW_USER_READ : PASTRULOW_READ;
+    if (code & PASTRULOW_CODE_FETCH)
+        return names[user + PASTRULOW_FETCH];
+    return code & PASTRULOW_CODE_WRITE ? names[user + PASTRULOW_WRITE] : names[user];
+}
+
 static const char *cause(uint64_t code)
 {
     if (!(code & PASTRULOW_CODE_PRESENT))
@@ -79,9 +114,7 @@ static const char *cause(uint64_t code)
 
 static void access_memory(uint64_t kind, uint64_t address)
 {
-    static const char *const names[] = {"read", "write", "fetch", "user read", "user write", "user fetch"};
-    pastrulow_translate(image, sizeof image, memory, sizeof memory, kind, address, record, sizeof record);
-    struct pastrulow_answer answer = pastrulow_read_answer(record);
+    struct pastrulow_answer answer = translate(kind, address);
     char result[64];
     if (answer.kind == PASTRULOW_ADDRESS)
         snprintf(result, sizeof result, "0x%" PRIx64, answer.value);
@@ -91,6 +124,16 @@ static void access_memory(uint64_t kind, uint64_t address)
         snprintf(result, sizeof result, "refusal %" PRIu64, answer.value);
     printf("0x%016" PRIx64 "  %-10s  %-24s  %10" PRIu64 "  %" PRIu64 "\n", address, names[kind], result, answer.size,
            answer.read);
+}
+
+/* A guest that makes one access again and again, as if it waited for the page. */
+static void retry_access(uint64_t kind, uint64_t address)
+{
+    unsigned faults = 0;
+    for (unsigned i = 0; i < TRIES; i++)
+        if (translate(kind, address).kind == PASTRULOW_FAULT)
+            faults++;
+    printf("0x%016" PRIx64 "  %-10s  %u tries, %u faults\n", address, names[kind], (unsigned)TRIES, faults);
 }
 
 static void show_accesses(void)
@@ -108,6 +151,7 @@ static void show_accesses(void)
     access_memory(PASTRULOW_USER_READ, 0x3000);
     access_memory(PASTRULOW_READ, 0x4000);
     access_memory(PASTRULOW_READ, UINT64_C(0x800000000000));
+    retry_access(PASTRULOW_USER_READ, 0x3abc); /* as at 0x3000: the same page, code and root */
 }
 
 static void show_invlpg(void)
@@ -127,6 +171,7 @@ static void show_cr3_switch(void)
     access_memory(PASTRULOW_READ, 0x212345);
     access_memory(PASTRULOW_WRITE, 0x212345);
     access_memory(PASTRULOW_READ, 0x5000); /* global: still held */
+    retry_access(PASTRULOW_USER_READ, 0x3abc); /* another root, so to the journal another fault */
 }
 
 static void show_saved_state(void)
@@ -142,9 +187,29 @@ static void show_saved_state(void)
     access_memory(PASTRULOW_READ, 0x212345);
 }
 
+static void show_record(size_t number)
+{
+    struct pastrulow_journal_record fault = pastrulow_read_journal_record(journal, number);
+    char told[64];
+    snprintf(told, sizeof told, "%s, %s", access_told(fault.code), cause(fault.code));
+    printf("0x%012" PRIx64 "  %-26s  0x%010" PRIx64 "  %5" PRIu64 "  %7" PRIu64 "\n", fault.page, told, fault.root, fault.first,
+           fault.repeats);
+}
+
+static void show_journal(void)
+{
+    struct pastrulow_journal_counts counts = pastrulow_read_journal_counts(journal);
+    printf("the journal, of %" PRIu64 " faults\n", counts.reports);
+    printf("%-14s  %-26s  %-12s  %5s  %7s\n", "page", "fault", "root", "first", "repeats");
+    for (size_t i = 0; i < counts.held; i++)
+        show_record(i);
+    printf("%" PRIu64 " held, %" PRIu64 " lost\n", counts.held, counts.lost);
+}
+
 int main(void)
 {
     check_version();
+    clear_journal();
     write_tables();
     load_state(40, FLAGS, 0x1000);
     printf("%-18s  %-10s  %-24s  %10s  %s\n", "address", "kind", "result", "page size", "entries read");
@@ -152,5 +217,6 @@ int main(void)
     show_invlpg();
     show_cr3_switch();
     show_saved_state();
+    show_journal();
     return 0;
 }

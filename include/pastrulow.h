@@ -1,21 +1,27 @@
 /*
- * pastrulow: x86-64 address translation with a translation buffer, for a host in C or C++.
+ * pastrulow: x86-64 address translation with a translation buffer, and a journal of page faults, for a host in C or C++.
  *
- * The host keeps the whole state in an image of 2,048 bytes and lends it to each call. Each call writes an answer record of
- * 32 bytes and returns the refusal number, or 0. The library keeps nothing between calls.
+ * The translator's six calls: the host keeps the whole state in an image of 2,048 bytes and lends it to each of them. Each
+ * writes an answer record of 32 bytes and returns the refusal number, or 0.
+ * The journal's two calls: the host lends a journal of 2,624 bytes and nothing else. They write no answer record, and return
+ * the refusal number, which is 9, or 0. A host that wants no journal need not have one.
+ * The library keeps nothing between calls.
  *
  * What a host owes:
  *   - each pointer is good for as many bytes as the length beside it says, to read and to write; a pointer may be NULL if its
  *     length is 0; no alignment is asked for;
- *   - the slices of one call (image, memory, answer) do not overlap;
- *   - an image and an answer are each lent to one call at a time, and guest memory to one translate at a time, which reads
- *     table entries there and sets their accessed and dirty bits by plain loads and stores. Where several processors share
- *     guest memory, each with its own image, the host needs a lock of its own around translate, and around other writes to
- *     tables; images that share no guest memory need no care;
+ *   - the slices of one call (image, memory, answer) do not overlap; nor does a journal overlap what another call is lent
+ *     at the same time;
+ *   - an image, an answer and a journal are each lent to one call at a time, and guest memory to one translate at a time,
+ *     which reads table entries there and sets their accessed and dirty bits by plain loads and stores. Where several
+ *     processors share guest memory, each with its own image, the host needs a lock of its own around translate, and around
+ *     other writes to tables; images that share no guest memory need no care. Where they share a journal, it needs one around
+ *     the journal's calls;
  *   - lengths are in bytes. A wrong length is no error of the host's: the call refuses it.
  *
  * Between calls the image is best left alone. An image made or changed by hand is safe to lend, and each call follows the same
- * rules on it, but what it answers from its buffer is then what the host wrote there.
+ * rules on it, but what it answers from its buffer is then what the host wrote there. The same holds of a journal and of what
+ * it says.
  */
 #ifndef PASTRULOW_H
 #define PASTRULOW_H
@@ -31,7 +37,8 @@ extern "C" {
 /*
  * The version of the calls, raised whenever the parameters or the meaning of an exported call change. The archive has the same
  * number, and a host should compare the two at its start. This does not help a host that does not ask; and nothing checks the
- * declarations below against the archive.
+ * declarations below against the archive. A call that is new raises nothing: with an archive that lacks it a host does not
+ * link.
  *   2: a fault's code has PASTRULOW_CODE_FETCH only while NXE is on; in version 1 every fetch had it
  */
 #define PASTRULOW_VERSION UINT64_C(2)
@@ -85,12 +92,12 @@ uint64_t pastrulow_version(void);
 #define PASTRULOW_CODE_FETCH UINT64_C(16)    /* the access was a fetch, with NXE on; with NXE off a fetch has a read's code */
 
 /*
- * Refusals. If several apply, the lowest is given. Refusal 1 writes nothing; the others write only the record, and neither the
- * image nor guest memory changes.
+ * Refusals of the translator's calls; the journal's is below. If several apply, the lowest is given. Refusal 1 writes nothing;
+ * the others write only the record, and neither the image nor guest memory changes.
  */
-#define PASTRULOW_REFUSED_ANSWER UINT64_C(1)  /* every call: the answer is not 32 bytes long */
-#define PASTRULOW_REFUSED_IMAGE UINT64_C(2)   /* every call: the image is not 2,048 bytes long; start: the width is not 36 to
-                                                 52; all others: the image holds such a width, a flag that does not exist, a
+#define PASTRULOW_REFUSED_ANSWER UINT64_C(1)  /* all six: the answer is not 32 bytes long */
+#define PASTRULOW_REFUSED_IMAGE UINT64_C(2)   /* all six: the image is not 2,048 bytes long; start: the width is not 36 to
+                                                 52; the others: the image holds such a width, a flag that does not exist, a
                                                  bit after the victim numbers, or a byte other than 0 after the slots */
 #define PASTRULOW_REFUSED_KIND UINT64_C(3)    /* translate: no such access kind */
 #define PASTRULOW_REFUSED_MEMORY UINT64_C(4)  /* translate: guest memory is not whole pages */
@@ -168,6 +175,87 @@ static inline struct pastrulow_answer pastrulow_read_answer(const uint8_t *answe
     read.value = pastrulow_word(answer + 8);
     read.size = pastrulow_word(answer + 16);
     read.read = pastrulow_word(answer + 24);
+    return read;
+}
+
+/* The table root in force: CR3's bits from 12 up to the width, which an image made by hand may have of any size. */
+static inline uint64_t pastrulow_root(const uint8_t *image)
+{
+    uint64_t width = pastrulow_word(image), cr3 = pastrulow_word(image + 16);
+    uint64_t below = width < 64 ? (UINT64_C(1) << width) - 1 : UINT64_MAX;
+    return cr3 & below & ~UINT64_C(0xFFF);
+}
+
+/*
+ * The journal: which page faults a guest has met, each once however often it was tried again.
+ *
+ * The host clears a journal before its first report and whenever it wants to begin anew, and reports each fault that translate
+ * answers. Two faults are equal if page, code and root are. A fault that no record held is equal to takes the next place, until
+ * 64 are held: those that come first keep their places. From then on a report of any other fault is only counted, as lost.
+ *
+ * The bytes are 328 little-endian words of 64 bits:
+ *   word 0       records held, 0 to 64
+ *   word 1       lost: reports of faults that found no place
+ *   word 2       reports since the clear
+ *   words 3 to 7 0 after a clear; a report neither reads nor writes them
+ *   words 8 on   64 records of five words each, record i at byte 64 + 40 * i: page, code, root, first, repeats
+ * All counts (lost, reports, first, repeats) stop at 2^32 - 1.
+ */
+#define PASTRULOW_JOURNAL_BYTES 2624
+#define PASTRULOW_JOURNAL_RECORDS 64
+#define PASTRULOW_COUNT_MAX UINT64_C(0xFFFFFFFF)
+
+/* The one refusal of the journal's calls. A refused call changes nothing. Of records that are not held nothing is asked. */
+#define PASTRULOW_REFUSED_JOURNAL UINT64_C(9) /* both calls: the journal is not 2,624 bytes long; report: it holds more than 64
+                                                 records, or its lost, its reports or the repeats of a record held are above
+                                                 2^32 - 1 */
+
+/* Sets every byte of the journal to 0. What it held before is not read. */
+uint64_t pastrulow_journal_clear(uint8_t *journal, size_t journal_len);
+
+/*
+ * Reports a page fault: the address that was translated, the code that was answered, and the table root in force at that time,
+ * which pastrulow_root reads. Any three numbers are taken; of the address only bits 56 to 12 are looked at. A fault equal to
+ * records held adds one to the repeats of the first of them.
+ */
+uint64_t pastrulow_journal_report(uint8_t *journal, size_t journal_len, uint64_t address, uint64_t code, uint64_t root);
+
+/* What the journal counts, read. */
+struct pastrulow_journal_counts {
+    uint64_t held;    /* records held: those numbered 0 to held - 1 */
+    uint64_t lost;    /* reports of faults that found no place */
+    uint64_t reports; /* reports since the clear */
+};
+
+/* Reads the counts of a journal of 2,624 bytes. */
+static inline struct pastrulow_journal_counts pastrulow_read_journal_counts(const uint8_t *journal)
+{
+    struct pastrulow_journal_counts read;
+    read.held = pastrulow_word(journal);
+    read.lost = pastrulow_word(journal + 8);
+    read.reports = pastrulow_word(journal + 16);
+    return read;
+}
+
+/* A record of the journal, read. */
+struct pastrulow_journal_record {
+    uint64_t page;    /* bits 56 to 12 of the address */
+    uint64_t code;    /* the page fault's code, as it was reported */
+    uint64_t root;    /* the table root, as it was reported */
+    uint64_t first;   /* the number of its first report among all reports since the clear, from 1 */
+    uint64_t repeats; /* how often it was reported again */
+};
+
+/* Reads one of the 64 records, numbered from 0, of a journal of 2,624 bytes. Whether it is held the counts say. */
+static inline struct pastrulow_journal_record pastrulow_read_journal_record(const uint8_t *journal, size_t number)
+{
+    const uint8_t *record = journal + 64 + 40 * number;
+    struct pastrulow_journal_record read;
+    read.page = pastrulow_word(record);
+    read.code = pastrulow_word(record + 8);
+    read.root = pastrulow_word(record + 16);
+    read.first = pastrulow_word(record + 24);
+    read.repeats = pastrulow_word(record + 32);
     return read;
 }
 

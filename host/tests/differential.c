@@ -1,6 +1,6 @@
 /*
- * The archive against the model of the paper, on random sequences of calls: return, record, image and guest memory are
- * compared after each call, and the guard bytes around them.
+ * The translator's calls, the archive against the model of the paper, on random sequences of them: return, record, image and
+ * guest memory are compared after each call, and the guard bytes around them.
  *
  *     differential [SEED [SEQUENCE [COUNT]]]
  *
@@ -211,7 +211,7 @@ int main(int count, char **arguments)
         if (!run_sequence(seed, sequence))
             return 1;
     bool every_sequence = count <= 2;
-    size_t missing = every_sequence ? events_print() : 0;
+    size_t missing = every_sequence ? translator_events_print() : 0;
     printf("differential: %lu calls agree\n", calls);
     if (missing > 0)
         printf("differential: %zu kinds of event never happened\n", missing);

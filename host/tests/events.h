@@ -1,11 +1,11 @@
-/* What can happen in a call, by the rules of the paper. The model counts each, so that a test can say what it has met. */
+/* What can happen in a call, by the rules of the paper. The models count each, so that a test can say what it has met. */
 #ifndef EVENTS_H
 #define EVENTS_H
 
 #include <stddef.h>
 
-/* Page sizes are numbered 0 (4 KiB), 1 (2 MiB), 2 (1 GiB) wherever events come in threes. */
-#define EVENTS(X)                                                                     \
+/* Of the translator. Page sizes are numbered 0 (4 KiB), 1 (2 MiB), 2 (1 GiB) wherever events come in threes. */
+#define TRANSLATOR_EVENTS(X)                                                          \
     X(HIT_4K, "hit, 4 KiB page")                                                      \
     X(HIT_2M, "hit, 2 MiB page")                                                      \
     X(HIT_1G, "hit, 1 GiB page")                                                      \
@@ -123,15 +123,56 @@
     X(IMAGE_REST, "refusal 2 by words 204 to 255")                                    \
     X(DROP_NOT_HELD, "a slot that is not held but not zero is dropped")
 
+/* Of the journal. */
+#define JOURNAL_EVENTS(X)                                                                       \
+    X(REPORT_NULL, "report refused: no bytes, lent as NULL")                                    \
+    X(REPORT_LENGTH, "report refused: another length")                                          \
+    X(REPORT_HELD, "report refused: more than 64 held")                                         \
+    X(REPORT_LOST, "report refused: lost above 2^32 - 1")                                       \
+    X(REPORT_REPORTS, "report refused: reports above 2^32 - 1")                                 \
+    X(REPORT_REPEATS, "report refused: repeats of a record held above 2^32 - 1")                \
+    X(REPORT_REPEATS_LAST, "report refused: such repeats in the last record held alone")        \
+    X(REPORT_REPEATS_BEHIND, "report refused: such repeats, and an equal record before them")   \
+    X(EQUAL, "report equal to one record held")                                                 \
+    X(EQUAL_SEVERAL, "report equal to several records held")                                    \
+    X(EQUAL_LAST, "report equal to record 63 alone")                                            \
+    X(EQUAL_BIT_BELOW, "report equal to a record, the address with a bit below 12")             \
+    X(EQUAL_BIT_ABOVE, "report equal to a record, the address with a bit above 56")             \
+    X(NEW, "new fault, record 0")                                                               \
+    X(NEW_NEXT, "new fault, a record from 1 to 62")                                             \
+    X(NEW_LAST, "new fault, record 63")                                                         \
+    X(NEW_BEHIND, "new fault, equal to a record that is not held")                              \
+    X(LOST, "lost")                                                                             \
+    X(OTHER_PAGE, "new fault or lost: a record held differs in page alone")                     \
+    X(OTHER_CODE, "new fault or lost: a record held differs in code alone")                     \
+    X(OTHER_ROOT, "new fault or lost: a record held differs in root alone")                     \
+    X(LOST_REACHES, "lost reaches 2^32 - 1")                                                    \
+    X(LOST_STOPS, "lost stops at 2^32 - 1")                                                     \
+    X(REPORTS_REACHES, "reports reaches 2^32 - 1")                                              \
+    X(REPORTS_STOPS, "reports stops at 2^32 - 1")                                               \
+    X(FIRST_STOPS, "new fault, its first stops at 2^32 - 1")                                    \
+    X(REPEATS_REACHES, "repeats reaches 2^32 - 1")                                              \
+    X(REPEATS_STOPS, "repeats stops at 2^32 - 1")                                               \
+    X(TAKEN_NOT_HELD, "report done: repeats above 2^32 - 1 in a record not held")               \
+    X(TAKEN_FIRST, "report done: first above 2^32 - 1 in a record held")                        \
+    X(TAKEN_REST, "report done: words 3 to 7 not zero")                                         \
+    X(CLEAR_NULL, "clear refused: no bytes, lent as NULL")                                      \
+    X(CLEAR_LENGTH, "clear refused: another length")                                            \
+    X(CLEAR_DONE, "clear done")                                                                 \
+    X(CLEAR_OF_REFUSED, "clear done of a journal that a report refuses")
+
 enum event {
 #define EVENT_NAME(name, text) EVENT_##name,
-    EVENTS(EVENT_NAME)
-#undef EVENT_NAME
+    TRANSLATOR_EVENTS(EVENT_NAME)
+        EVENT_TRANSLATOR_END,
+    JOURNAL_EVENTS(EVENT_NAME)
         EVENT_COUNT
+#undef EVENT_NAME
 };
 
 void event(enum event which);
-/* Prints every event with its count and gives the number of those that never happened. */
-size_t events_print(void);
+/* Each prints the events of one model with their counts, and gives the number of those that never happened. */
+size_t translator_events_print(void);
+size_t journal_events_print(void);
 
 #endif

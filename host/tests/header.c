@@ -1,4 +1,7 @@
-/* What the header says beside the calls: the version, a record's words, a fault's level, how a saved state is loaded. */
+/*
+ * What the header says beside the calls: the version, a record's words, a fault's level, how a saved state is loaded, the root
+ * in force, a journal's words.
+ */
 #include <string.h>
 
 #include "check.h"
@@ -64,11 +67,92 @@ static void fault_at_each_level(void)
     }
 }
 
+static void put_word(uint8_t *bytes, uint64_t word)
+{
+    for (unsigned i = 0; i < 8; i++)
+        bytes[i] = (uint8_t)(word >> 8 * i);
+}
+
+/* Bit by bit: CR3's from 12 up to the width, and the width itself not. */
+static uint64_t plain_root(uint64_t width, uint64_t cr3)
+{
+    uint64_t root = 0;
+    for (unsigned bit = 12; bit < 64; bit++)
+        if (bit < width && (cr3 >> bit & 1) != 0)
+            root += UINT64_C(1) << bit;
+    return root;
+}
+
+static void read_root(uint64_t width, uint64_t cr3)
+{
+    static uint8_t image[PASTRULOW_IMAGE_BYTES];
+    memset(image, 0xa5, sizeof image);
+    put_word(image, width);
+    put_word(image + 16, cr3);
+    check("root", pastrulow_root(image), plain_root(width, cr3));
+}
+
+/* CR3 with every bit set, with each alone, and a few others; the widths that start takes and others. */
+static void read_roots_of_width(uint64_t width)
+{
+    read_root(width, 0);
+    read_root(width, UINT64_MAX);
+    read_root(width, UINT64_C(0x0123456789abcdef));
+    read_root(width, UINT64_C(0xfedcba9876543210));
+    for (unsigned bit = 0; bit < 64; bit++)
+        read_root(width, UINT64_C(1) << bit);
+}
+
+static void read_roots(void)
+{
+    static const uint64_t widths[] = {0, 1, 11, 12, 13, 53, 63, 64, 65, 76, UINT64_C(0x100000028), UINT64_C(1) << 63,
+                                      UINT64_MAX};
+    for (size_t i = 0; i < sizeof widths / sizeof *widths; i++)
+        read_roots_of_width(widths[i]);
+    for (uint64_t width = PASTRULOW_WIDTH_MIN; width <= PASTRULOW_WIDTH_MAX; width++)
+        read_roots_of_width(width);
+}
+
+/* What the test writes into a journal's words: all different, and so are the bytes of each. */
+static uint64_t journal_word(unsigned number)
+{
+    return UINT64_C(0xf8e7d6c5b4a39281) + UINT64_C(0x0100010001000100) * number + number / 128;
+}
+
+static void read_journal(const uint8_t *journal)
+{
+    struct pastrulow_journal_counts counts = pastrulow_read_journal_counts(journal);
+    check("held", counts.held, journal_word(0));
+    check("lost", counts.lost, journal_word(1));
+    check("reports", counts.reports, journal_word(2));
+    for (unsigned i = 0; i < PASTRULOW_JOURNAL_RECORDS; i++) {
+        struct pastrulow_journal_record record = pastrulow_read_journal_record(journal, i);
+        check("page", record.page, journal_word(8 + 5 * i));
+        check("code", record.code, journal_word(9 + 5 * i));
+        check("root", record.root, journal_word(10 + 5 * i));
+        check("first", record.first, journal_word(11 + 5 * i));
+        check("repeats", record.repeats, journal_word(12 + 5 * i));
+    }
+}
+
+/* A journal at every distance from an aligned address. */
+static void read_journals(void)
+{
+    static uint8_t bytes[PASTRULOW_JOURNAL_BYTES + 8];
+    for (unsigned at = 0; at < 8; at++) {
+        for (unsigned i = 0; i < PASTRULOW_JOURNAL_BYTES / 8; i++)
+            put_word(bytes + at + 8 * i, journal_word(i));
+        read_journal(bytes + at);
+    }
+}
+
 int main(void)
 {
     check("version", pastrulow_version(), PASTRULOW_VERSION);
     read_records();
     load_states();
     fault_at_each_level();
+    read_roots();
+    read_journals();
     return checked(PASTRULOW_LITTLE_ENDIAN ? "header" : "header, words byte by byte");
 }

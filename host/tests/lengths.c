@@ -37,10 +37,17 @@ static void no_memory(void)
     check("read", fault.read, 1);
 }
 
+static void no_journal(void)
+{
+    check("clear", pastrulow_journal_clear(NULL, 0), 9);
+    check("report", pastrulow_journal_report(NULL, 0, 0, 0, 0), 9);
+}
+
 int main(void)
 {
     no_answer();
     no_image();
     no_memory();
+    no_journal();
     return checked("lengths");
 }

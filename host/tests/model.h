@@ -1,6 +1,6 @@
 /*
- * The paper once more, in plain C: the same six calls as pastrulow.h, written from documents 01 and 02 alone, slow and simple.
- * The model counts what happens (events.h).
+ * The paper once more, in plain C: the translator's six calls, written from documents 01 and 02 alone, slow and simple. The
+ * model counts what happens (events.h). The journal has a model of its own (model_journal.h).
  */
 #ifndef MODEL_H
 #define MODEL_H

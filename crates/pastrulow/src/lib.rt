@@ -3,6 +3,7 @@
 ghost use mathlib.Core.Path.{_≡_};
 ghost use lib.ListN.{length};
 ghost use Rattle.rules.specs.Refusals.{start, translate, invlpg, invpcid, writeCr3, writeMode};
+ghost use Rattle.journal.specs.Calls.{Clears, Reports};
 ghost use Rattle.pastrulow.specs.Door.{Passes, PassesMemory, Holds, Recorded, version};
 use rules::Answer;
 use translator::calls;
@@ -131,6 +132,26 @@ pub extern "C" fn pastrulow_write_mode(image: &mut [u8], flags: u64, answer: &mu
         return NO_RECORD;
     }
     write_record(answer, calls::write_mode(image, flags))
+}
+
+// The journal's two calls write no answer record: they return 9, or 0.
+#[no_mangle]
+pub extern "C" fn pastrulow_journal_clear(journal: &mut [u8]) -> u64
+    ensures { λ r. ⌜ Clears (now (journal .entry)) (now (journal .exit)) r ⌝ }
+{
+    journal::clear(journal)
+}
+
+#[no_mangle]
+pub extern "C" fn pastrulow_journal_report(
+    journal: &mut [u8],
+    address: u64,
+    code: u64,
+    root: u64,
+) -> u64
+    ensures { λ r. ⌜ Reports address code root (now (journal .entry)) (now (journal .exit)) r ⌝ }
+{
+    journal::report(journal, address, code, root)
 }
 
 #[no_mangle]
