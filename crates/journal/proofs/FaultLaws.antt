@@ -1,8 +1,8 @@
 -- Faults in a list, and in the list with one more report: which are there, which are distinct, how many come before the first of one, how often one
 -- comes, how many are of others. Each law goes by induction over the list, and there by whether a fault is the one asked for.
-use Prim.Native.Nat.{ℕ, zero, suc, _+_, _-_, _≤_, _<_}
+use Prim.Native.Nat.{ℕ, zero, suc, _+_, _-_, _<_}
 use mathlib.Core.Path.{_≡_, refl, ap, sym, _∙_}
-use mathlib.Core.Bool.{Bool, true, false, cond, _||_, _&&_, true≢false, false≢true}
+use mathlib.Core.Bool.{Bool, true, false, cond, _||_, _&&_, false≢true}
 use mathlib.Core.List.{List, [], _∷_, _++_, append-nil}
 use native.Mathlib.Numerals.{add-one}
 use native.Mathlib.Omega.{arith}
@@ -10,8 +10,7 @@ use lib.Dec.{eqb}
 use lib.ListN.{length, take}
 use borrow.Author.Tests.{eqb-true, eq-eqb}
 use Rattle.rules.proofs.BoolLaws.{or-left, or-right, and-left, and-right, either}
-use Rattle.journal.specs.Journal.{Fault}
-use Rattle.journal.specs.Step.{isSame}
+use Rattle.journal.specs.Journal.{Fault, isSame}
 use Rattle.journal.specs.History.{has, without, distinct, before, times, others}
 
 -- ---- the same fault

@@ -1,15 +1,15 @@
 -- Looking for a fault, record by record: the first one of it is found, or all those held are passed.
 use Prim.Native.Nat.{ℕ, zero, suc, _+_, _*_, _≤_, _<_}
 use mathlib.Core.Path.{_≡_, refl, ap, sym, _∙_}
-use mathlib.Core.Bool.{Bool, true, false, cond, _&&_}
+use mathlib.Core.Bool.{Bool, true, false, _&&_}
 use mathlib.Core.List.{List}
 use native.Mathlib.Omega.{arith}
 use native.Mathlib.Decide.{decLt}
 use lib.Dec.{eqb}
 use Rattle.rules.specs.Bits.{wordAt}
 use Rattle.rules.specs.Buffer.{hit, miss, first}
-use Rattle.journal.specs.Journal.{Fault, Journal, decode}
-use Rattle.journal.specs.Step.{isSame, from, find}
+use Rattle.journal.specs.Journal.{Fault, isSame, Journal, decode}
+use Rattle.journal.specs.Step.{from, find}
 use Rattle.journal.specs.Parts.{Finds}
 use Rattle.journal.proofs.JournalLaws.{page-at, code-at, root-at}
 

@@ -2,19 +2,19 @@
 -- new and there is room for it, it is lost.
 use Prim.Native.Nat.{ℕ, zero, suc, _+_, _-_, _≤_, _<_, min}
 use mathlib.Core.Path.{_≡_, refl, ap, sym, _∙_, fun-ext}
-use mathlib.Core.Bool.{Bool, true, false, cond, _||_, true≢false, false≢true}
+use mathlib.Core.Bool.{Bool, true, false, cond, _||_, false≢true}
 use mathlib.Core.List.{List, [], _∷_, _++_, map, map-append}
 use native.Mathlib.Omega.{arith}
 use native.Mathlib.Numerals.{add-one}
 use native.Mathlib.Nat.{zero-add, add-zero}
 use lib.Dec.{eqb, ltb, eqb·suc-zero, eqb·zero-suc, eqb·suc-suc}
-use lib.ListN.{length, getD, take, length-append, length-take, length-map}
+use lib.ListN.{length, getD, length-append, length-take}
 use lib.Seq.{take-all, take-append-le}
 use borrow.Author.Tests.{lt-ltb, le-ltb, ltb-true, ltb-false}
 use Rattle.rules.specs.Buffer.{Hit, hit, miss, first}
 use Rattle.rules.proofs.BoolLaws.{or-left, or-right}
-use Rattle.journal.specs.Journal.{Fault, Record, Journal, unused, blank}
-use Rattle.journal.specs.Step.{isSame, limit, more, from, find, repeated, placed, counted, report}
+use Rattle.journal.specs.Journal.{Fault, isSame, Record, unused, blank}
+use Rattle.journal.specs.Step.{more, from, find, repeated, report}
 use Rattle.journal.specs.History.{stopped, has, distinct, before, times, others, recorded, recordOf, history}
 use Rattle.journal.proofs.FaultLaws.{same-self, same-is, same-swap, or-true, has-take, has-new, has-distinct, Apart, apart-distinct, apart-take, distinct-snoc, before-snoc, before-new, times-snoc, times-some, times-none, others-snoc, others-more}
 

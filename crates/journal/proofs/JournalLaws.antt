@@ -3,20 +3,17 @@
 use Prim.Native.Nat.{ℕ, zero, suc, _+_, _*_, _^_, _≤_, _<_}
 use mathlib.Core.Path.{_≡_, refl, ap, sym, _∙_, subst, fun-ext}
 use mathlib.Core.Bool.{cond}
-use mathlib.Core.List.{List, [], _∷_}
+use mathlib.Core.List.{List, [], _∷_, _++_}
 use native.Mathlib.Omega.{arith}
 use native.Mathlib.Nat.{mul-suc}
 use native.Mathlib.Numerals.{add-five}
-use native.Mathlib.Decide.{ℕ-discrete}
 use lib.ListN.{length, getD, set, drop, length-drop, List·getD-eq-default}
-use lib.Seq.{getD-drop, drop-cons, set-split, set-out, getD-set-same, getD-set-other, sets}
+use lib.Seq.{getD-drop, drop-cons, set-split, sets}
 use lib.Dec.{eqb, eqb·suc-zero, eqb·zero-suc, eqb·suc-suc}
-use borrow.Author.Tests.{ne-eqb}
 use Rattle.rules.specs.Bits.{AreBytes, AreWords, wordAt, wordPut, wordsOf, bytesOfAll}
 use Rattle.rules.proofs.WordLaws.{all-length, words-all, all-words, word-at, words-are, words-length}
 use Rattle.rules.proofs.ImageLaws.{put-bytes}
-use Rattle.journal.specs.Journal.{Record, Journal, blank, recordWords, wordsIn, recordIn, fromWords, encode, decode, Sound, IsJournal}
-use Rattle.journal.specs.Step.{stored}
+use Rattle.journal.specs.Journal.{Record, Journal, blank, fiveWords, recordWords, wordsIn, recordIn, fromWords, encode, decode, Sound, IsJournal}
 
 -- ---- records are words five by five
 abbrev recordsIn : List ℕ → ℕ → Record
@@ -167,14 +164,13 @@ put-word ws n x h =
 -- the five words of record i
 pub record-put : (n i : ℕ) (t : Record) (f : ℕ → Record) → i < n
     → recordWords n (λ k. cond (eqb k i) t (f k))
-    ≡ sets (recordWords n f) (5 * i) (t .fault .page ∷ t .fault .code ∷ t .fault .root ∷ t .first ∷ t .repeats ∷ [])
+    ≡ sets (recordWords n f) (5 * i) (fiveWords t)
 record-put zero i t f h = absurd (omega arith)
 record-put (suc n) zero t f h = simp eqb·suc-zero
 record-put (suc n) (suc i) t f h =
     rw (mul-suc 5 i, add-five)
     (simp (eqb·zero-suc, eqb·suc-suc)
-    (ap (λ (l : List ℕ). f 0 .fault .page ∷ f 0 .fault .code ∷ f 0 .fault .root ∷ f 0 .first ∷ f 0 .repeats ∷ l)
-    (record-put n i t (λ k. f (suc k)) (omega arith))))
+    (ap (λ (l : List ℕ). fiveWords (f 0) ++ l) (record-put n i t (λ k. f (suc k)) (omega arith))))
 
 -- its last word alone
 pub repeats-put : (n i x : ℕ) (f : ℕ → Record) → i < n
@@ -185,5 +181,4 @@ repeats-put (suc n) (suc i) x f h =
     let e : 4 + 5 * suc i ≡ suc (suc (suc (suc (suc (4 + 5 * i))))) = omega arith in
     rw e
     (simp (eqb·zero-suc, eqb·suc-suc)
-    (ap (λ (l : List ℕ). f 0 .fault .page ∷ f 0 .fault .code ∷ f 0 .fault .root ∷ f 0 .first ∷ f 0 .repeats ∷ l)
-    (repeats-put n i x (λ k. f (suc k)) (omega arith))))
+    (ap (λ (l : List ℕ). fiveWords (f 0) ++ l) (repeats-put n i x (λ k. f (suc k)) (omega arith))))

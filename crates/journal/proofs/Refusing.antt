@@ -1,7 +1,7 @@
 -- The ways through refusal 9. Counts or-ed together are above the limit exactly if one of them is, since the limit is all ones.
 use Prim.Native.Nat.{ℕ, _+_, _*_, _/_, _^_, _≤_, _<_}
-use mathlib.Core.Path.{_≡_, refl, ap, sym, _∙_}
-use mathlib.Core.Bool.{Bool, true, false, _&&_, _||_, not, or-false, or-assoc}
+use mathlib.Core.Path.{_≡_, refl, sym, _∙_}
+use mathlib.Core.Bool.{true, _&&_, _||_, not, or-false, or-assoc}
 use mathlib.Core.List.{List}
 use native.Mathlib.Omega.{arith}
 use native.Mathlib.Numerals.{add-one}
@@ -9,12 +9,11 @@ use native.Mathlib.Decide.{decLt}
 use lib.Bits.{bitOr, or-shr}
 use lib.Dec.{eqb, ltb}
 use lib.ListN.{length}
-use borrow.Author.Tests.{lt-ltb, le-ltb, ltb-false, eq-eqb, ne-eqb}
+use borrow.Author.Tests.{lt-ltb, le-ltb, eq-eqb, ne-eqb}
 use Rattle.rules.specs.Bits.{wordAt}
 use Rattle.rules.proofs.BoolLaws.{same}
 use Rattle.words.proofs.Masks.{zero-or}
-use Rattle.journal.specs.Journal.{Record, decode}
-use Rattle.journal.specs.Step.{limit}
+use Rattle.journal.specs.Journal.{limit, decode}
 use Rattle.journal.specs.Calls.{isOver, isUnfit}
 use Rattle.journal.proofs.JournalLaws.{held-at, lost-at, reports-at, repeats-at}
 

@@ -1,7 +1,7 @@
 -- The ways through a report: what each function below it stores is what its part of the step says, and after the report was counted the bytes
 -- are a journal's again.
 use Prim.Native.Nat.{ℕ, _+_, _-_, _*_, _/_, _%_, _≤_, _<_}
-use mathlib.Core.Path.{_≡_, refl, ap, ap₂, sym, _∙_, subst}
+use mathlib.Core.Path.{_≡_, ap, ap₂, sym, _∙_, subst}
 use mathlib.Core.Bool.{Bool, true, false, _||_, not}
 use mathlib.Core.List.{List, [], _∷_, _++_}
 use native.Mathlib.Omega.{arith}
@@ -10,10 +10,9 @@ use lib.ListN.{length, take, drop, replicate, drop-of-length-le}
 use lib.Seq.{drop-drop}
 use borrow.Author.Tests.{lt-ltb, le-ltb, ltb-false, ne-eqb, eqb-true, not-false}
 use Rattle.rules.specs.Bits.{AreBytes, wordAt, wordPut, bytesOfAll}
-use Rattle.rules.specs.Buffer.{hit, miss}
 use Rattle.rules.proofs.BoolLaws.{or-left, or-right}
 use Rattle.journal.specs.Journal.{Fault, Journal, encode, decode, IsJournal}
-use Rattle.journal.specs.Step.{faultOf, more, find, counted, stored, again, withOneMore, kept, missed, placed, report}
+use Rattle.journal.specs.Step.{more, counted, again, withOneMore, kept, missed, report}
 use Rattle.journal.specs.Calls.{isLong, isUnfit, Clears, Reports}
 use Rattle.journal.specs.Parts.{Fit, Finds}
 use Rattle.journal.proofs.JournalLaws.{held-at, lost-at, reports-at, repeats-at, decode-encode, journal-of, is-encoded}

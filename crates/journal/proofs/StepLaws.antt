@@ -1,29 +1,24 @@
 -- What each part of a step stores in a journal's bytes, and that it leaves a sound journal.
-use Prim.Native.Nat.{ℕ, zero, suc, _+_, _*_, _^_, _≤_, _<_}
-use mathlib.Core.Path.{_≡_, refl, ap, sym, _∙_, subst}
-use mathlib.Core.Bool.{Bool, true, false, cond}
+use Prim.Native.Nat.{ℕ, zero, suc, _+_, _*_, _^_, _<_}
+use mathlib.Core.Path.{_≡_, ap, sym, _∙_, subst}
 use mathlib.Core.List.{List, [], _∷_, _++_, append-assoc}
 use native.Mathlib.Omega.{arith}
-use lib.ListN.{length, getD, take, drop, set}
+use lib.ListN.{take, drop, set}
 use lib.Seq.{drop-drop, sets, sets-eq}
-use lib.Dec.{eqb}
 use borrow.Author.Tests.{ne-eqb}
 use Rattle.rules.specs.Bits.{AreWords, wordPut, bytesOfAll}
 use Rattle.rules.proofs.ImageLaws.{put-bytes}
-use Rattle.journal.specs.Journal.{Fault, Record, Journal, wordsIn, encode, Sound}
-use Rattle.journal.specs.Step.{more, counted, stored, repeated, again, withOneMore, kept, missed}
+use Rattle.journal.specs.Journal.{Fault, Record, Journal, fiveWords, wordsIn, encode, Sound}
+use Rattle.journal.specs.Step.{more, counted, stored, again, withOneMore, kept, missed}
 use Rattle.journal.proofs.JournalLaws.{words-set, put-word, record-put, repeats-put}
 
 -- ---- in words
-abbrev five : Record → List ℕ
-five t = t .fault .page ∷ t .fault .code ∷ t .fault .root ∷ t .first ∷ t .repeats ∷ []
-
 -- the eight words before the records
 abbrev ahead : Journal → List ℕ → List ℕ
 ahead j l =
     j .held ∷ j .lost ∷ j .reports ∷ j .spare .three ∷ j .spare .four ∷ j .spare .five ∷ j .spare .six ∷ j .spare .seven ∷ l
 
-stored-words : (i : ℕ) (t : Record) (j : Journal) → i < 64 → wordsIn (stored i t j) ≡ sets (wordsIn j) (8 + 5 * i) (five t)
+stored-words : (i : ℕ) (t : Record) (j : Journal) → i < 64 → wordsIn (stored i t j) ≡ sets (wordsIn j) (8 + 5 * i) (fiveWords t)
 stored-words i t j h =
     let e : 8 + 5 * i ≡ suc (suc (suc (suc (suc (suc (suc (suc (5 * i)))))))) = omega arith in
     rw e (ap (ahead j) (record-put 64 i t (j .records) h))
@@ -54,13 +49,13 @@ module _ (j : Journal) where
       ap bytesOfAll (again-words i j h) ∙ rw e at (put-word (wordsIn j) (12 + 5 * i) (more (j .records i .repeats)) (omega arith))
 
   pub stored-bytes : (i : ℕ) (t : Record) → i < 64
-      → encode (stored i t j) ≡ take (64 + i * 40) (encode j) ++ (bytesOfAll (five t) ++ drop 40 (drop (64 + i * 40) (encode j)))
+      → encode (stored i t j) ≡ take (64 + i * 40) (encode j) ++ (bytesOfAll (fiveWords t) ++ drop 40 (drop (64 + i * 40) (encode j)))
   unfolding encode
   stored-bytes i t h =
       let at : 8 * (8 + 5 * i) ≡ 64 + i * 40 = omega arith in
       let end : 8 * (8 + 5 * i + 5) ≡ 64 + i * 40 + 40 = omega arith in
-      ap bytesOfAll (stored-words i t j h ∙ sets-eq (five t) (wordsIn j) (8 + 5 * i) (omega arith) ∙ append-assoc (take (8 + 5 * i) (wordsIn j)) (five t) _)
-      ∙ rw (at, end, ← drop-drop 40 (64 + i * 40) (encode j)) at (put-bytes (8 + 5 * i) (8 + 5 * i + 5) (five t) (wordsIn j))
+      ap bytesOfAll (stored-words i t j h ∙ sets-eq (fiveWords t) (wordsIn j) (8 + 5 * i) (omega arith) ∙ append-assoc (take (8 + 5 * i) (wordsIn j)) (fiveWords t) _)
+      ∙ rw (at, end, ← drop-drop 40 (64 + i * 40) (encode j)) at (put-bytes (8 + 5 * i) (8 + 5 * i + 5) (fiveWords t) (wordsIn j))
 
 -- ---- what a step leaves is sound
 words-sets : (vs ws : List ℕ) (n : ℕ) → AreWords vs → AreWords ws → AreWords (sets ws n vs)
@@ -88,10 +83,10 @@ module _ (j : Journal) (q : Sound j) where
           beyond = λ k g. rw (ne-eqb k i (omega arith)) (q .beyond k g);
         }
 
-    pub sound-stored : (t : Record) → AreWords (five t) → Sound (stored i t j)
+    pub sound-stored : (t : Record) → AreWords (fiveWords t) → Sound (stored i t j)
     sound-stored t f =
         record {
-          words = subst AreWords (sym (stored-words i t j h)) (words-sets (five t) (wordsIn j) (8 + 5 * i) f (q .words));
+          words = subst AreWords (sym (stored-words i t j h)) (words-sets (fiveWords t) (wordsIn j) (8 + 5 * i) f (q .words));
           beyond = λ k g. rw (ne-eqb k i (omega arith)) (q .beyond k g);
         }
 

@@ -1,21 +1,21 @@
 -- After a clear and any reports a journal's bytes are those of the whole history. A journal of a history is sound and is not refused, so by
 -- induction each report makes the step on it, and the step makes the journal of the history with that report.
 use Prim.Native.Nat.{ℕ, zero, suc, _+_, _^_, _≤_, _<_, min}
-use mathlib.Core.Path.{_≡_, refl, ap, sym, _∙_, subst}
+use mathlib.Core.Path.{_≡_, refl, ap, _∙_, subst}
 use mathlib.Core.Bool.{Bool, true, false, cond}
 use mathlib.Core.List.{List, [], _∷_, _++_, map, append-nil, append-assoc}
 use native.Mathlib.Omega.{arith}
 use lib.Dec.{eqb, ltb}
-use lib.ListN.{length, getD, replicate, length-take}
+use lib.ListN.{length, getD, length-take}
 use borrow.Author.Tests.{le-ltb, ltb-true, eq-eqb}
 use Rattle.rules.specs.Buffer.{Hit, hit, miss, first}
 use Rattle.rules.proofs.BoolLaws.{either}
 use Rattle.rules.proofs.ImageLaws.{zeros-at}
-use Rattle.journal.specs.Journal.{Fault, Record, Journal, blank, encode, decode, Sound}
-use Rattle.journal.specs.Step.{faultOf, limit, from, find, counted, placed, report}
+use Rattle.journal.specs.Journal.{Fault, faultOf, limit, Record, Journal, blank, encode, decode, Sound}
+use Rattle.journal.specs.Step.{from, find, counted, placed, report}
 use Rattle.journal.specs.History.{stopped, others, distinct, recorded, recordOf, history}
-use Rattle.journal.specs.Calls.{Left, isOver, isUnfit, cleared, reported}
-use Rattle.journal.specs.Claims.{Report, faults, after, Says, Whole}
+use Rattle.journal.specs.Calls.{isOver, isUnfit, cleared, reported}
+use Rattle.journal.specs.Claims.{Report, faults, after, Whole}
 use Rattle.journal.proofs.JournalLaws.{encode-length, decode-encode}
 use Rattle.journal.proofs.StepLaws.{sound-counted, sound-again, sound-kept, sound-missed}
 use Rattle.journal.proofs.HistoryLaws.{step}

@@ -5,8 +5,8 @@ use mathlib.Core.Bool.{Bool, false, cond, _||_, not}
 use mathlib.Core.List.{List}
 use lib.ListN.{length, replicate}
 use lib.Dec.{ltb, eqb}
-use Rattle.journal.specs.Journal.{Record, Journal, encode, decode}
-use Rattle.journal.specs.Step.{faultOf, limit, report}
+use Rattle.journal.specs.Journal.{faultOf, limit, Record, encode, decode}
+use Rattle.journal.specs.Step.{report}
 
 -- the number returned, and the journal's bytes
 pub record Left : Type 0 where

@@ -5,10 +5,9 @@ use mathlib.Core.Bool.{cond}
 use mathlib.Core.List.{List, [], _∷_}
 use lib.ListN.{length}
 use lib.Dec.{eqb}
-use Rattle.journal.specs.Journal.{Fault, encode}
-use Rattle.journal.specs.Step.{faultOf}
+use Rattle.journal.specs.Journal.{Fault, faultOf, encode}
 use Rattle.journal.specs.History.{history}
-use Rattle.journal.specs.Calls.{Left, cleared, reported}
+use Rattle.journal.specs.Calls.{cleared, reported}
 
 -- a report as the host makes it, its numbers of 64 bits, and the length of the bytes that it lends for the journal
 pub record Report : Type 0 where

@@ -1,21 +1,22 @@
--- The whole history: what the journal is to say of all the reports since the clear, the first of them first. No step is made here; a report is its
--- fault.
+-- The whole history: what the journal is to say of all the reports since the clear, the first of them first. No step is made here, and none is named; a
+-- report is its fault.
 use Prim.Native.Nat.{ℕ, _+_, _-_, min}
 use mathlib.Core.Bool.{Bool, false, cond, _||_}
 use mathlib.Core.List.{List, [], _∷_, map}
 use lib.ListN.{length, getD, take}
-use Rattle.journal.specs.Journal.{Fault, Record, Journal, unused, blank}
-use Rattle.journal.specs.Step.{isSame, limit}
+use Rattle.journal.specs.Journal.{Fault, isSame, limit, Record, Journal, unused, blank}
 
 -- a count stops
 abbrev pub stopped : ℕ → ℕ
 stopped n = min n limit
 
 -- ---- faults in a list
+-- this one is there
 abbrev pub has : Fault → List Fault → Bool
 has f [] = false
 has f (x ∷ xs) = isSame x f || has f xs
 
+-- all but this one
 abbrev pub without : Fault → List Fault → List Fault
 without f [] = []
 without f (x ∷ xs) = cond (isSame x f) (without f xs) (x ∷ without f xs)

@@ -1,15 +1,28 @@
 -- The fault journal of request W-202: as a record of named parts, and as the 2,624 bytes that the host keeps.
-use Prim.Native.Nat.{ℕ, zero, suc, _+_, _*_, _≤_}
+use Prim.Native.Nat.{ℕ, zero, suc, _+_, _-_, _*_, _^_, _≤_}
 use mathlib.Core.Path.{_≡_}
-use mathlib.Core.List.{List, [], _∷_}
+use mathlib.Core.Bool.{Bool, _&&_}
+use mathlib.Core.List.{List, [], _∷_, _++_}
+use lib.Dec.{eqb}
 use lib.ListN.{length, getD}
-use Rattle.rules.specs.Bits.{AreWords, wordsOf, bytesOfAll}
+use Rattle.rules.specs.Bits.{field, AreWords, wordsOf, bytesOfAll}
 
--- what makes two reports equal: the number of the page, the fault's code, the root of the tables
+-- a fault, by what makes two reports of it equal: the number of the page, the fault's code, the root of the tables
 pub record Fault : Type 0 where
   pub page : ℕ
   pub code : ℕ
   pub root : ℕ
+
+-- as it is reported: the page's number is bits 56 to 12 of the address; code and root are taken as they are given
+abbrev pub faultOf : ℕ → ℕ → ℕ → Fault
+faultOf address code root = record { page = field 57 12 address; code = code; root = root }
+
+abbrev pub isSame : Fault → Fault → Bool
+isSame f g = eqb (f .page) (g .page) && eqb (f .code) (g .code) && eqb (f .root) (g .root)
+
+-- where all counts stop
+abbrev pub limit : ℕ
+limit = 2 ^ 32 - 1
 
 -- a fault, the number of its first report, and how often it was reported again
 pub record Record : Type 0 where
@@ -41,10 +54,12 @@ abbrev pub blank : Record
 blank = record { fault = record { page = 0; code = 0; root = 0 }; first = 0; repeats = 0 }
 
 -- ---- as 328 words, and as 2,624 bytes: eight words, then five for each of the 64 records
+abbrev pub fiveWords : Record → List ℕ
+fiveWords t = t .fault .page ∷ t .fault .code ∷ t .fault .root ∷ t .first ∷ t .repeats ∷ []
+
 abbrev pub recordWords : ℕ → (ℕ → Record) → List ℕ
 recordWords zero f = []
-recordWords (suc n) f =
-    f 0 .fault .page ∷ f 0 .fault .code ∷ f 0 .fault .root ∷ f 0 .first ∷ f 0 .repeats ∷ recordWords n (λ i. f (suc i))
+recordWords (suc n) f = fiveWords (f 0) ++ recordWords n (λ i. f (suc i))
 
 abbrev pub wordsIn : Journal → List ℕ
 wordsIn j =

@@ -3,8 +3,7 @@ use Prim.Native.Nat.{ℕ, _≤_, _<_}
 use mathlib.Core.Path.{_≡_}
 use mathlib.Core.Bool.{true, false}
 use mathlib.Core.List.{List}
-use Rattle.journal.specs.Journal.{Fault, Journal, decode, IsJournal}
-use Rattle.journal.specs.Step.{isSame}
+use Rattle.journal.specs.Journal.{Fault, isSame, Journal, decode, IsJournal}
 
 -- a journal that can be reported to
 pub record Fit (b : List ℕ) : Type 0 where

@@ -1,22 +1,10 @@
 -- The step: what one report does to a journal, whatever it holds.
-use Prim.Native.Nat.{ℕ, zero, suc, _+_, _-_, _^_, min}
-use mathlib.Core.Bool.{Bool, cond, _&&_}
+use Prim.Native.Nat.{ℕ, zero, suc, _+_, min}
+use mathlib.Core.Bool.{cond}
 use mathlib.Core.List.{List, [], _∷_}
 use lib.Dec.{ltb, eqb}
-use Rattle.rules.specs.Bits.{field}
 use Rattle.rules.specs.Buffer.{Hit, hit, miss, first}
-use Rattle.journal.specs.Journal.{Fault, Record, Journal}
-
--- the fault that is reported: of the address its bits 56 to 12 count, the page's number; code and root are kept as they are given
-abbrev pub faultOf : ℕ → ℕ → ℕ → Fault
-faultOf address code root = record { page = field 57 12 address; code = code; root = root }
-
-abbrev pub isSame : Fault → Fault → Bool
-isSame f g = eqb (f .page) (g .page) && eqb (f .code) (g .code) && eqb (f .root) (g .root)
-
--- where all counts stop
-abbrev pub limit : ℕ
-limit = 2 ^ 32 - 1
+use Rattle.journal.specs.Journal.{Fault, isSame, limit, Record, Journal}
 
 -- a count with one more
 abbrev pub more : ℕ → ℕ

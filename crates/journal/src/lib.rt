@@ -7,8 +7,8 @@ ghost use Prim.Native.Nat.{_+_, _≤_, _<_};
 ghost use lib.Dec.{ltb};
 ghost use lib.ListN.{length};
 ghost use Rattle.rules.specs.Bits.{wordAt, wordPut, bytesOfAll};
-ghost use Rattle.journal.specs.Journal.{encode, decode, IsJournal};
-ghost use Rattle.journal.specs.Step.{isSame, limit, more as moreOf, counted, again as againOf, kept, missed, report as reportOf};
+ghost use Rattle.journal.specs.Journal.{isSame, limit, encode, decode, IsJournal};
+ghost use Rattle.journal.specs.Step.{more as moreOf, counted, again as againOf, kept, missed, report as reportOf};
 ghost use Rattle.journal.specs.Calls.{isOver, isUnfit, Clears, Reports};
 ghost use Rattle.journal.specs.Parts.{Fit, Finds};
 

@@ -4,8 +4,7 @@ use mathlib.Core.Path.{_≡_}
 use mathlib.Core.Bool.{_||_}
 use borrow.Author.Needs.{needs}
 use lib.Dec.{ltb}
-use Rattle.journal.specs.Journal.{decode}
-use Rattle.journal.specs.Step.{limit}
+use Rattle.journal.specs.Journal.{limit, decode}
 use Rattle.journal.specs.Calls.{isOver}
 use Rattle.journal.proofs.Refusing.{none-gathered, one-gathered, all-gathered}
 use Rattle.journal.proofs.gather.Statement.{statement}
