@@ -133,13 +133,16 @@ static struct journal make_journal(struct random *random, const struct pool *poo
     return journal;
 }
 
-/* Guard bytes are random, and the journals stand at every alignment in turn. */
+/* Guard bytes are random, or behind the journal zero, as a record there that nothing refuses. The journals stand at every
+   alignment in turn. */
 static void make_sides(struct random *random, const struct pool *pool, uint64_t number)
 {
     struct journal journal = make_journal(random, pool);
     for (size_t i = 0; i < SIDE_BYTES; i++)
         door_side.bytes[i] = (uint8_t)random_word(random);
     door_side.at = GUARD + number % SHIFTS;
+    if (random_percent(random, 50))
+        memset(door_side.bytes + door_side.at + JOURNAL_BYTES, 0, GUARD);
     encode_journal(&journal, door_side.bytes + door_side.at);
     model_side = door_side;
 }
