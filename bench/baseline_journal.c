@@ -1,6 +1,6 @@
 /*
- * The journal's calls in plain C, as fast as C for any x86-64 makes them: what the archive is measured against.
- * Same journal, same refusal. It is held to the models of the paper by the journal's test; nothing is proved.
+ * The journal's calls in plain C: what the archive is measured against. Each pass over the records is one loop, which the
+ * compiler unrolls. It is not the fastest C: docs/PERFORMANCE.md has the counts of a faster one. Same journal, same refusal. It is held to the models of the paper by the journal's test; nothing is proved.
  */
 #include "baseline_words.h"
 
