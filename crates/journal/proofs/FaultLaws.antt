@@ -2,7 +2,7 @@
 -- comes, how many are of others. Each law goes by induction over the list, and there by whether a fault is the one asked for.
 use Prim.Native.Nat.{ℕ, zero, suc, _+_, _-_, _<_}
 use mathlib.Core.Path.{_≡_, refl, ap, sym, _∙_}
-use mathlib.Core.Bool.{Bool, true, false, cond, _||_, _&&_, false≢true}
+use mathlib.Core.Bool.{Bool, true, false, cond, _||_, _&&_, false≢true, or-true}
 use mathlib.Core.List.{List, [], _∷_, _++_, append-nil}
 use native.Mathlib.Numerals.{add-one}
 use native.Mathlib.Omega.{arith}
@@ -45,10 +45,6 @@ or-grows : (b m n : Bool) → (m ≡ true → n ≡ true) → (b || m) ≡ true 
 or-grows true m n f h = refl
 or-grows false m n f h = f h
 
-pub or-true : (b m : Bool) → m ≡ true → (b || m) ≡ true
-or-true true m h = refl
-or-true false m h = h
-
 -- ---- a fault in a list
 pub has-take : (f : Fault) (n : ℕ) (l : List Fault) → has f (take n l) ≡ true → has f l ≡ true
 has-take f zero l h = absurd (false≢true h)
@@ -61,7 +57,7 @@ has-snoc f g (x ∷ l) e = or-alike (isSame x f) _ _ (λ _. has-snoc f g l e)
 
 pub has-new : (f : Fault) (l : List Fault) → has f (l ++ (f ∷ [])) ≡ true
 has-new f [] = rw (same-self f)
-has-new f (x ∷ l) = or-true (isSame x f) _ (has-new f l)
+has-new f (x ∷ l) = rw (has-new f l) (or-true (isSame x f))
 
 without-case : (f g x : Fault) (l : List Fault) (b : Bool) → isSame x f ≡ b → isSame f g ≡ false → has g (without f l) ≡ has g l
     → has g (cond b (without f l) (x ∷ without f l)) ≡ (isSame x g || has g l)

@@ -2,7 +2,7 @@
 -- new and there is room for it, it is lost.
 use Prim.Native.Nat.{ℕ, zero, suc, _+_, _-_, _≤_, _<_, min}
 use mathlib.Core.Path.{_≡_, refl, ap, sym, _∙_, fun-ext}
-use mathlib.Core.Bool.{Bool, true, false, cond, _||_, false≢true}
+use mathlib.Core.Bool.{Bool, true, false, cond, _||_, false≢true, or-true}
 use mathlib.Core.List.{List, [], _∷_, _++_, map, map-append}
 use native.Mathlib.Omega.{arith}
 use native.Mathlib.Numerals.{add-one}
@@ -16,7 +16,7 @@ use Rattle.rules.proofs.BoolLaws.{or-left, or-right}
 use Rattle.journal.specs.Journal.{Fault, isSame, Record, unused, blank}
 use Rattle.journal.specs.Step.{more, from, find, repeated, report}
 use Rattle.journal.specs.History.{stopped, has, distinct, before, times, others, recorded, recordOf, history}
-use Rattle.journal.proofs.FaultLaws.{same-self, same-is, same-swap, or-true, has-take, has-new, has-distinct, Apart, apart-distinct, apart-take, distinct-snoc, before-snoc, before-new, times-snoc, times-some, times-none, others-snoc, others-more}
+use Rattle.journal.proofs.FaultLaws.{same-self, same-is, same-swap, has-take, has-new, has-distinct, Apart, apart-distinct, apart-take, distinct-snoc, before-snoc, before-new, times-snoc, times-some, times-none, others-snoc, others-more}
 
 -- ---- looking for a fault among records in their order
 abbrev hitIf : Bool → ℕ → Hit
@@ -67,7 +67,7 @@ module _ (past : List Fault) (f : Fault) where
   AllIn l = (x : Fault) → has x l ≡ true → has x past ≡ true
 
   rest-in : (x : Fault) (l : List Fault) → AllIn (x ∷ l) → AllIn l
-  rest-in x l sub y h = sub y (or-true (isSame x y) (has y l) h)
+  rest-in x l sub y h = sub y (rw h (or-true (isSame x y)))
 
   records-same : (l : List Fault) → AllIn l → has f l ≡ false → (i : ℕ) → getD (map (recordOf past) l) i blank ≡ getD (map (recordOf next) l) i blank
   records-same [] sub h i = refl

@@ -8,8 +8,10 @@ use native.Mathlib.Omega.{arith}
 use lib.Dec.{eqb, ltb}
 use lib.ListN.{length, getD, length-take}
 use borrow.Author.Tests.{le-ltb, ltb-true, eq-eqb}
-use Rattle.rules.specs.Buffer.{Hit, hit, miss, first}
+use Rattle.rules.specs.Buffer.{Hit, hit, miss}
 use Rattle.rules.proofs.BoolLaws.{either}
+use Rattle.rules.proofs.Alike.{AllOf}
+use Rattle.rules.proofs.SlotLaws.{Hits, first-all}
 use Rattle.rules.proofs.ImageLaws.{zeros-at}
 use Rattle.journal.specs.Journal.{Fault, faultOf, limit, Record, Journal, blank, encode, decode, Sound}
 use Rattle.journal.specs.Step.{from, find, counted, placed, report}
@@ -21,20 +23,16 @@ use Rattle.journal.proofs.StepLaws.{sound-counted, sound-again, sound-k
 use Rattle.journal.proofs.HistoryLaws.{step}
 
 -- ---- a report leaves a sound journal
-found-lt : (p : ℕ → Bool) (i n k : ℕ) → first p (from i n) ≡ hit k → k < i + n
-found-lt p i zero k e = let z : _≡_ {A = ℕ} 0 1 = cc in absurd (omega arith)
-found-lt p i (suc n) k e = go (p i) e (found-lt p (suc i) n k)
-  where
-    go : (b : Bool) → cond b (hit i) (first p (from (suc i) n)) ≡ hit k → (first p (from (suc i) n) ≡ hit k → k < suc i + n) → k < i + suc n
-    go true e ih = let q : i ≡ k = cc in omega arith
-    go false e ih = let g : k < suc i + n = ih e in omega arith
+from-low : (i n : ℕ) → i + n ≤ 64 → AllOf (λ k. k < 64) (from i n)
+from-low i zero h = tt {0}
+from-low i (suc n) h = (omega arith, from-low (suc i) n (omega arith))
 
 sound-report : (f : Fault) (j : Journal) → Sound j → j .held ≤ 64 → f .page < 2 ^ 64 → f .code < 2 ^ 64 → f .root < 2 ^ 64 → Sound (report f j)
-sound-report f j q h p c r = go (find f j) refl
+sound-report f j q h p c r = go (find f j) (first-all (λ k. k < 64) _ (from 0 (j .held)) (from-low 0 (j .held) (omega arith)))
   where
-    go : (x : Hit) → find f j ≡ x → Sound (placed f (counted j) x)
-    go (hit i) e = let g : i < 0 + j .held = found-lt _ 0 (j .held) i e in sound-again (counted j) (sound-counted j q) i (omega arith)
-    go miss e =
+    go : (x : Hit) → Hits (λ k. k < 64) x → Sound (placed f (counted j) x)
+    go (hit i) low = sound-again (counted j) (sound-counted j q) i low
+    go miss low =
         either Sound (ltb (j .held) 64) _ _ (λ g. sound-kept f (counted j) (sound-counted j q) (ltb-true (j .held) 64 g) p c r)
         (λ g. sound-missed (counted j) (sound-counted j q))
 
