@@ -15,6 +15,9 @@ pub mod RefusalLaws
 pub mod CallWays
 pub mod AnswerLaws
 pub mod SoundLaws
+pub mod FitLaws
+pub mod ManyLaws
 pub mod Cases
 pub mod TrialCases
 pub mod OwnCases
+pub mod ManyCases

@@ -1,12 +1,12 @@
 -- What a call that is not refused was given, as far as proofs go by it: no refusal of its list applies, so each test of the table is passed.
-use Prim.Native.Nat.{ℕ, _%_, _^_, _≤_}
+use Prim.Native.Nat.{ℕ, _%_, _^_, _≤_, _<_}
 use mathlib.Core.Path.{_≡_, refl}
 use mathlib.Core.Bool.{Bool, true, false, cond, _||_, not}
 use mathlib.Core.List.{List, [], _∷_}
 use native.Mathlib.Omega.{arith}
 use lib.ListN.{length, drop}
 use lib.Dec.{leb, ltb, eqb}
-use borrow.Author.Tests.{eqb-true, ltb-false, not-false}
+use borrow.Author.Tests.{eqb-true, ltb-false, leb-false, not-false}
 use Rattle.rules.specs.Bits.{AreBytes, wordsOf}
 use Rattle.rules.specs.Image.{decode, IsImage}
 use Rattle.rules.specs.Memory.{Memory}
@@ -15,11 +15,13 @@ use Rattle.rules.proofs.BoolLaws.{or-left, or-right}
 use Rattle.rules.proofs.PlaceLaws.{image-of}
 use Rattle.rules.proofs.CallLaws.{Above}
 
--- ---- an image that is fit: its length, its width, and nothing after the slots
+-- ---- an image that is fit: its length, its width, its flags and victim numbers, and nothing after the slots
 pub record Fit (b : List ℕ) : Type 0 where
   pub long : length b ≡ 2048
   pub wide : 36 ≤ decode b .width
   pub narrow : decode b .width ≤ 52
+  pub flags : decode b .flags < 2 ^ 5
+  pub victims : decode b .victims < 2 ^ 50
   pub tail : allZero (drop 204 (wordsOf 256 b)) ≡ true
 
 -- the length and a width, of the image or of a start
@@ -35,6 +37,10 @@ fit b h =
       long = s .0;
       wide = s .1;
       narrow = s .2;
+      flags = leb-false (2 ^ 5) (decode b .flags) (or-right (not (isLong b) || isOutside (decode b .width)) _ (or-left _ _ (or-left _ _ h)));
+      victims =
+          leb-false (2 ^ 50) (decode b .victims)
+          (or-right (not (isLong b) || isOutside (decode b .width) || leb (2 ^ 5) (decode b .flags)) _ (or-left _ _ h));
       tail =
           not-false (allZero (drop 204 (wordsOf 256 b)))
           (or-right (not (isLong b) || isOutside (decode b .width) || leb (2 ^ 5) (decode b .flags) || leb (2 ^ 50) (decode b .victims)) _ h);

@@ -12,7 +12,7 @@ use Rattle.rules.specs.Bits.{isOn, AreBytes}
 use Rattle.rules.specs.Sizes.{Is, sizeAt, pageNumber, setOf}
 use Rattle.rules.specs.Image.{Image, started, decode, control, pge, pcide, pcid, victim, movedOn, Sound}
 use Rattle.rules.specs.Memory.{Memory, entryAt}
-use Rattle.rules.specs.Walk.{Leaf}
+use Rattle.rules.specs.Walk.{Leaf, reached, reachIn}
 use Rattle.rules.specs.Buffer.{matches, ofPcid, stored, withVictims}
 use Rattle.rules.specs.Refusals.{Request, start, translate, invlpg, invpcid, writeCr3, writeMode, canonical, refusal}
 use Rattle.rules.specs.Calls.{After, accessOf, invpcidDrops, sameMode, accepted, withCr3, withFlags, Outcome, call}
@@ -41,37 +41,48 @@ module _ (n v : ℕ) where
       let q : 4 * (v / 2 ^ (2 * n) / 4) + victim n v ≡ v / 2 ^ (2 * n) = omega arith in
       rw q (sym (split v (2 * n)))
 
-  pub moved-lt : (x : ℕ) → n < 25 → v < 2 ^ 64 → x < 4 → v - victim n v * 2 ^ (2 * n) + x * 2 ^ (2 * n) < 2 ^ 64
-  moved-lt x h g f =
-      let j : 64 - 2 * n + 2 * n ≡ 64 = omega arith in
-      let i : 2 + (62 - 2 * n) ≡ 64 - 2 * n = omega arith in
-      let k : 2 ^ (64 - 2 * n) ≡ 4 * 2 ^ (62 - 2 * n) = rw i at (pow-add 2 2 (62 - 2 * n)) in
-      let whole : 2 ^ 64 ≡ 4 * 2 ^ (62 - 2 * n) * 2 ^ (2 * n) = rw (j, k) at (pow-add 2 (64 - 2 * n) (2 * n)) in
-      let q : v / 2 ^ (2 * n) < 2 ^ (64 - 2 * n) = shr-lt (64 - 2 * n) (2 * n) (rw j g) in
+  -- they have two bits for each of 25 sets, so they stay below any power of 2 from 2 ^ 50 on
+  moved-below : (x k : ℕ) → n < 25 → 50 ≤ k → v < 2 ^ k → x < 4 → v - victim n v * 2 ^ (2 * n) + x * 2 ^ (2 * n) < 2 ^ k
+  moved-below x k h l g f =
+      let j : k - 2 * n + 2 * n ≡ k = omega arith in
+      let i : 2 + (k - 2 - 2 * n) ≡ k - 2 * n = omega arith in
+      let m : 2 ^ (k - 2 * n) ≡ 4 * 2 ^ (k - 2 - 2 * n) = rw i at (pow-add 2 2 (k - 2 - 2 * n)) in
+      let whole : 2 ^ k ≡ 4 * 2 ^ (k - 2 - 2 * n) * 2 ^ (2 * n) = rw (j, m) at (pow-add 2 (k - 2 * n) (2 * n)) in
+      let q : v / 2 ^ (2 * n) < 2 ^ (k - 2 * n) = shr-lt (k - 2 * n) (2 * n) (rw j g) in
       rw (placed (2 ^ (2 * n)) _ (victim n v) _ v x victim-parts, whole)
-      (placed-lt (2 ^ (2 * n)) (2 ^ (62 - 2 * n)) _ _ x (omega arith) (mod-lt v (pow-pos (2 * n))) f)
+      (placed-lt (2 ^ (2 * n)) (2 ^ (k - 2 - 2 * n)) _ _ x (omega arith) (mod-lt v (pow-pos (2 * n))) f)
+
+  pub moved-lt : (x : ℕ) → n < 25 → v < 2 ^ 64 → x < 4 → v - victim n v * 2 ^ (2 * n) + x * 2 ^ (2 * n) < 2 ^ 64
+  moved-lt x h g f = moved-below x 64 h (omega arith) g f
 
 pub pcid-lt : (s : Image) → pcid s < 4096
 pcid-lt s = either (λ (p : ℕ). p < 4096) (pcide (s .flags)) (s .cr3 / 2 ^ 0 % 2 ^ 12) 0 (λ e. omega arith) (λ e. omega arith)
 
 -- ---- translate
+module _ (s : Image) (mem : Memory) (k : Access) (a : ℕ) where
+  page-size : (p : Leaf) → reachIn mem (control s) a .end ≡ reached p → Is (sizeAt (p .level))
+  page-size p e =
+      let l : IsLeaf (entryAt mem) (control s) p = is-leaf mem (control s) a p e in
+      size-at (p .level) (l .low) (l .high)
+
+  -- the victims after a page was stored
+  pub victims-below : (m : ℕ) → 50 ≤ m → s .victims < 2 ^ m → (p : Leaf) (i v : ℕ) → Stores s mem k a i v p → v < 2 ^ m
+  victims-below m l g p i v h = go (h .victims)
+    where
+      go : (v ≡ s .victims) ⊎ (v ≡ movedOn (setOf (sizeAt (p .level)) a) (s .victims)) → v < 2 ^ m
+      go (inl e) = rw e g
+      go (inr e) =
+          rw e (moved-below (setOf (sizeAt (p .level)) a) (s .victims) _ m (set-lt (sizeAt (p .level)) a (page-size p (h .end))) l g (omega arith))
+
 module _ (s : Image) (mem : Memory) (k : Access) (a : ℕ) (narrow : s .width ≤ 52) (sound : Sound s) where
   sound-page : (p : Leaf) (i v : ℕ) → Stores s mem k a i v p → Sound (stored i (pageSlot s k a p) (withVictims v (cleared s a)))
   sound-page p i v h =
+      let z : Is (sizeAt (p .level)) = page-size s mem k a p (h .end) in
       sound-stored i (pageSlot s k a p) (withVictims v (cleared s a)) (omega (arith, set-lt (sizeAt (p .level)) a z))
       (tag-lt (pge (s .flags) && p .global) (pcid s) (pageNumber (sizeAt (p .level)) a) (pcid-lt s) (page-lt (sizeAt (p .level)) a z))
-      (datum-lt (p .rights) (k .write || p .dirty) (p .base) (leaf-lt (entryAt mem) (control s) p l narrow))
-      (sound-victims v (cleared s a) (low (h .victims)) (sound-dropped (matches (pcid s) a) s sound))
-    where
-      l : IsLeaf (entryAt mem) (control s) p
-      l = is-leaf mem (control s) a p (h .end)
-
-      z : Is (sizeAt (p .level))
-      z = size-at (p .level) (l .low) (l .high)
-
-      low : (v ≡ s .victims) ⊎ (v ≡ movedOn (setOf (sizeAt (p .level)) a) (s .victims)) → v < 2 ^ 64
-      low (inl e) = rw e (sound .victims)
-      low (inr e) = rw e (moved-lt (setOf (sizeAt (p .level)) a) (s .victims) _ (set-lt (sizeAt (p .level)) a z) (sound .victims) (omega arith))
+      (datum-lt (p .rights) (k .write || p .dirty) (p .base) (leaf-lt (entryAt mem) (control s) p (is-leaf mem (control s) a p (h .end)) narrow))
+      (sound-victims v (cleared s a) (victims-below s mem k a 64 (omega arith) (sound .victims) p i v h)
+      (sound-dropped (matches (pcid s) a) s sound))
 
   sound-way : {o : After} → Way s mem k a o → Sound (o .image)
   sound-way (unpaged off) = sound

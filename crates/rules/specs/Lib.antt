@@ -8,4 +8,5 @@ pub mod Buffer
 pub mod Answers
 pub mod Refusals
 pub mod Calls
+pub mod Many
 pub mod TrialGuest

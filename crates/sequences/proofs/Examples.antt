@@ -5,18 +5,21 @@
 use Prim.Native.Nat.{ℕ, _+_, _^_}
 use mathlib.Core.Path.{_≡_, refl}
 use mathlib.Core.Bool.{true, false}
-use mathlib.Core.List.{[], _∷_, _++_}
+use mathlib.Core.List.{List, [], _∷_, _++_}
 use native.Mathlib.Omega.{arith}
 use lib.ListN.{replicate}
+use Rattle.rules.specs.Bits.{bytesOfAll}
 use Rattle.rules.specs.Image.{Image, tagOf, started, encode, decode}
 use Rattle.rules.specs.Memory.{Memory}
 use Rattle.rules.specs.Buffer.{stored}
 use Rattle.rules.specs.Refusals.{translate, invlpg, invpcid, writeCr3, writeMode}
 use Rattle.rules.specs.Calls.{call}
+use Rattle.rules.specs.Many.{pairsFrom, made, many}
 use Rattle.rules.specs.TrialGuest.{pageOf}
 use Rattle.rules.specs.declared.Answer.{Answer}
 use Rattle.rules.specs.declared.Answer.the-variants.{Address}
 use Rattle.sequences.specs.History.{History, begun, _then_with_, bytes, image}
+use Rattle.sequences.specs.Doors.{Doors, opened, _then_with_into_, _then-many_with_into_, doorBytes, historyOf}
 use Rattle.sequences.specs.Covers.{global, others, names, covered}
 use Rattle.sequences.specs.Spans.{OnlyTranslator, RootA, RootB}
 use Rattle.sequences.specs.Claims.{plain}
@@ -162,3 +165,21 @@ not-a mem c = let z : _≡_ {A = ℕ} 0x0000 0x1000 = c .root-others .1 .0 in om
 pub not-b : (mem : Memory) → RootB moved mem 0x1000 → ⊥
 unfolding bytes encode decode
 not-b mem c = let z : _≡_ {A = ℕ} 0x0000 0x1000 = c .root-others .1 .0 refl in omega arith
+
+-- ---- a batch: in one call a page is read, written to and written to again. The third of its calls is answered by the buffer, and is the write that stands
+-- under (a); the batch before it, with too few answer bytes, is no call. Then the guest changed its table and did not invalidate
+abbrev readyDoors : Doors
+readyDoors = opened (replicate 32 0) (replicate 2048 0) 40 refl refl then writeMode 23 with [] into replicate 32 0
+
+abbrev thrice : List ℕ
+thrice = bytesOfAll (0 ∷ 0x1000 ∷ 1 ∷ 0x1000 ∷ 1 ∷ 0x1000 ∷ [])
+
+abbrev batched : Doors
+batched = readyDoors then-many thrice with first into replicate 95 0 then-many thrice with first into replicate 96 0
+
+pub batch-shown : (historyOf batched ≡ (written then translate 1 0x1000 with left read (left ready first 0 0x1000) 1 0x1000))
+    × (many (replicate 96 0) (doorBytes readyDoors) first thrice .answer
+    ≡ bytesOfAll (0 ∷ 0x5000 ∷ 0x1000 ∷ 4 ∷ 0 ∷ 0x5000 ∷ 0x1000 ∷ 4 ∷ 0 ∷ 0x5000 ∷ 0x1000 ∷ 0 ∷ []))
+    × Shows (historyOf batched) changed 1 0x1000 (Address 0x5000 0x1000 0) (Address 0x8000 0x1000 4)
+unfolding bytes encode decode pairsFrom made
+batch-shown = (refl, refl, (refl, refl))
