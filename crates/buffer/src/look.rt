@@ -1,14 +1,14 @@
-// Looking up: the first slot that matches an address. The first that holds its page is found by one masked compare a way, and whose it is is tested
-// on that slot alone; only where it is another PCID's are all ways gone through.
+// Looking up: the first slot that matches an address. The first that holds its page is found by one masked compare a way, size after size, each by a
+// call of its own, so that a small page that is held is answered before anything is asked of the others. Whose it is is tested on that slot alone; only
+// where it is another PCID's are all ways gone through.
 ghost use mathlib.Core.Path.{_≡_};
-ghost use Prim.Native.Nat.{_+_, _^_, _≤_, _<_};
+ghost use Prim.Native.Nat.{_+_, _/_, _%_, _^_, _≤_, _<_};
 ghost use lib.ListN.{length};
 ghost use Rattle.rules.specs.Bits.{wordAt};
-ghost use Rattle.rules.specs.Sizes.{Is, ways};
+ghost use Rattle.rules.specs.Sizes.{middle as middleSize, large as largeSize, Is, ways};
 ghost use Rattle.rules.specs.Image.{decode, pcid as pcidOf};
-ghost use Rattle.rules.specs.Buffer.{allWays};
 ghost use Rattle.sets.specs.Ways.{tagIn};
-ghost use Rattle.buffer.specs.Look.{Looks, holdsPage, isOf, FirstHeld};
+ghost use Rattle.buffer.specs.Look.{Looks, holdsPage, isOf, FirstHeld, Begins};
 use rules::Size;
 use sets::size;
 use sets::size::Page1G;
@@ -16,9 +16,17 @@ use sets::size::Page2M;
 use sets::size::Page4K;
 use sets::tags;
 
-// Where a page is held: a slot, and the length of its page.
+// Where a page is held: the place of a slot among the slots, in bytes, and the length of its page.
 pub enum Place {
     At(usize, u64),
+    Nowhere,
+}
+
+// Where looking up begins: the small slot that holds the page; or, where none does, the first of the larger sizes whose set is in use.
+pub enum Start {
+    Small(usize),
+    Middle,
+    Large,
     Nowhere,
 }
 
@@ -30,12 +38,12 @@ fn holds_page(image: &[u8], at: usize, number: u64) -> bool
     (words::read_word(image, at) ^ (number * 0x4000 + 1)) & 0x0003_FFFF_FFFF_C001 == 0
 }
 
-// Whether a slot is global, or of that PCID.
-fn is_of(image: &[u8], i: usize, pcid: u64) -> bool
-    requires { ⌜ (length (now image) ≡ 2048) × (i < 100) ⌝ }
-    ensures { λ r. ⌜ r ≡ isOf pcid (tagIn (now (image .entry)) i) ⌝ }
+// Whether the slot at a place among the slots is global, or of that PCID.
+pub fn is_of(image: &[u8], at: usize, pcid: u64) -> bool
+    requires { ⌜ (length (now image) ≡ 2048) × ((at % 16 ≡ 0) × (at / 16 < 100)) ⌝ }
+    ensures { λ r. ⌜ r ≡ isOf pcid (tagIn (now (image .entry)) (at / 16)) ⌝ }
 {
-    let tag = words::read_word(image, 32 + i * 16);
+    let tag = words::read_word(image, 32 + at);
     (tag / 2 % 2 == 1) | (tag / 4 % 4096 == pcid)
 }
 
@@ -45,50 +53,59 @@ fn held_of(image: &[u8], z: Size, a: u64) -> Place
     ensures { λ r. ⌜ FirstHeld (now (image .entry)) a (ways z a) r ⌝ }
 {
     let number = size::page_number(z, a);
-    let i = 4 * size::set_of(z, number) as usize;
-    let at = 32 + i * 16;
-    if holds_page(image, at, number) {
-        return Place::At(i, z.length);
+    let at = 64 * size::set_of(z, number) as usize;
+    if holds_page(image, 32 + at, number) {
+        return Place::At(at, z.length);
     }
-    if holds_page(image, at + 16, number) {
-        return Place::At(i + 1, z.length);
+    if holds_page(image, 48 + at, number) {
+        return Place::At(at + 16, z.length);
     }
-    if holds_page(image, at + 32, number) {
-        return Place::At(i + 2, z.length);
+    if holds_page(image, 64 + at, number) {
+        return Place::At(at + 32, z.length);
     }
-    if holds_page(image, at + 48, number) {
-        return Place::At(i + 3, z.length);
-    }
-    Place::Nowhere
-}
-
-// The same as `held_of`, for a size whose sets are often empty: then none of the ways is compared.
-fn held_large(image: &[u8], z: Size, a: u64) -> Place
-    requires { ⌜ (length (now image) ≡ 2048) × Is z ⌝ }
-    ensures { λ r. ⌜ FirstHeld (now (image .entry)) a (ways z a) r ⌝ }
-{
-    if tags::any_in(image, z, a) {
-        return held_of(image, z, a);
+    if holds_page(image, 80 + at, number) {
+        return Place::At(at + 48, z.length);
     }
     Place::Nowhere
 }
 
-// The same of all sizes, small pages first.
-fn held(image: &[u8], a: u64) -> Place
+// The sets of the larger sizes are often empty: then none of their ways is compared.
+pub fn first(image: &[u8], a: u64) -> Start
     requires { ⌜ length (now image) ≡ 2048 ⌝ }
-    ensures { λ r. ⌜ FirstHeld (now (image .entry)) a (allWays a) r ⌝ }
+    ensures { λ r. ⌜ Begins (now (image .entry)) a r ⌝ }
 {
     match held_of(image, Page4K::size(), a) {
-        Place::At(i, l) => Place::At(i, l),
-        Place::Nowhere => match held_large(image, Page2M::size(), a) {
-            Place::At(i, l) => Place::At(i, l),
-            Place::Nowhere => held_large(image, Page1G::size(), a),
-        },
+        Place::At(at, _) => Start::Small(at),
+        Place::Nowhere => {
+            if tags::any_in(image, Page2M::size(), a) {
+                return Start::Middle;
+            }
+            if tags::any_in(image, Page1G::size(), a) {
+                return Start::Large;
+            }
+            Start::Nowhere
+        }
     }
+}
+
+// The first slot that holds the address's 2 MiB page.
+pub fn middle(image: &[u8], a: u64) -> Place
+    requires { ⌜ length (now image) ≡ 2048 ⌝ }
+    ensures { λ r. ⌜ FirstHeld (now (image .entry)) a (ways middleSize a) r ⌝ }
+{
+    held_of(image, Page2M::size(), a)
+}
+
+// The first slot that holds the address's 1 GiB page.
+pub fn large(image: &[u8], a: u64) -> Place
+    requires { ⌜ length (now image) ≡ 2048 ⌝ }
+    ensures { λ r. ⌜ FirstHeld (now (image .entry)) a (ways largeSize a) r ⌝ }
+{
+    held_of(image, Page1G::size(), a)
 }
 
 // The first match, way by way.
-fn look_all(image: &[u8], a: u64, pcid: u64) -> Place
+pub fn look_all(image: &[u8], a: u64, pcid: u64) -> Place
     requires { ⌜ (length (now image) ≡ 2048) × (pcid ≡ pcidOf (decode (now image))) ⌝ }
     ensures { λ r. ⌜ Looks (now (image .entry)) a r ⌝ }
 {
@@ -96,27 +113,11 @@ fn look_all(image: &[u8], a: u64, pcid: u64) -> Place
     while k < 12 {
         let z = size::size_at(1 + k / 4);
         let number = size::page_number(z, a);
-        let i = (4 * size::set_of(z, number) + k % 4) as usize;
-        if holds_page(image, 32 + i * 16, number) & is_of(image, i, pcid) {
-            return Place::At(i, z.length);
+        let at = 16 * (4 * size::set_of(z, number) + k % 4) as usize;
+        if holds_page(image, 32 + at, number) & is_of(image, at, pcid) {
+            return Place::At(at, z.length);
         }
         k += 1;
     }
     Place::Nowhere
-}
-
-// The first match: where the first slot that holds the page is one's own, it is that slot.
-pub fn look(image: &[u8], a: u64, pcid: u64) -> Place
-    requires { ⌜ (length (now image) ≡ 2048) × (pcid ≡ pcidOf (decode (now image))) ⌝ }
-    ensures { λ r. ⌜ Looks (now (image .entry)) a r ⌝ }
-{
-    match held(image, a) {
-        Place::At(i, l) => {
-            if is_of(image, i, pcid) {
-                return Place::At(i, l);
-            }
-            look_all(image, a, pcid)
-        }
-        Place::Nowhere => Place::Nowhere,
-    }
 }

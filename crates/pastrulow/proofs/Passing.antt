@@ -1,68 +1,24 @@
--- The ways through the door: the answer bytes have the wrong length, or the call's answer is written as its record.
+-- The ways through the door of a call that is lent no guest memory: the answer bytes have the wrong length, or the call's answer is written as its record.
 use Prim.Native.Nat.{ℕ}
-use mathlib.Core.Path.{_≡_, refl, ap, sym, _∙_}
-use mathlib.Core.List.{List, []}
-use native.Mathlib.Omega.{arith}
-use lib.ListN.{length, drop, drop-of-length-le}
-use lib.Seq.{drop-drop}
-use Rattle.rules.specs.Bits.{wordPut}
-use Rattle.rules.specs.Memory.{Memory}
-use Rattle.rules.specs.Answers.{recordBytes}
+use mathlib.Core.Path.{_≡_, ap, sym, _∙_}
+use mathlib.Core.List.{List}
+use lib.ListN.{length}
 use Rattle.rules.specs.Refusals.{Request}
-use Rattle.rules.specs.Calls.{Outcome, Left, call, written, door}
-use Rattle.rules.specs.declared.Cause.{Cause}
+use Rattle.rules.specs.Calls.{written}
 use Rattle.rules.specs.declared.Answer.{Answer}
-use Rattle.rules.specs.declared.Answer.the-variants.{Address, PageFault, Refused, Done}
 use Rattle.rules.proofs.CallLaws.{door-written, door-refused}
-use Rattle.translator.specs.Contract.{Leaves, Translates}
-use Rattle.pastrulow.specs.Door.{Passes, PassesMemory, Holds, Recorded}
+use Rattle.records.specs.Record.{Recorded}
+use Rattle.translator.specs.Contract.{Leaves}
+use Rattle.pastrulow.specs.Door.{Passes}
 
--- ---- four words fill 32 bytes
-nothing-left : (r : List ℕ) → length r ≡ 32 → drop 8 (drop 8 (drop 8 (drop 8 r))) ≡ []
-nothing-left r h = simp drop-drop (drop-of-length-le r {i = 32} (omega arith))
+pub turned-away : (q : Request) (r b : List ℕ) → (length r ≡ 32 → ⊥) → Passes q r r b b 1
+turned-away q r b wrong = record { left = λ mem. sym (door-refused r b mem q wrong) }
 
-four-words : (r : List ℕ) (k v s n : ℕ) → length r ≡ 32
-    → wordPut (wordPut (wordPut (wordPut r 0 k) 8 v) 16 s) 24 n ≡ recordBytes (record { kind = k; value = v; size = s; read = n })
-four-words r k v s n h = rw (nothing-left r h)
-
-pub filled : (r r₁ r₂ r₃ r₄ : List ℕ) (k v s n : ℕ) → length r ≡ 32 → r₁ ≡ wordPut r 0 k → r₂ ≡ wordPut r₁ 8 v → r₃ ≡ wordPut r₂ 16 s → r₄ ≡ wordPut r₃ 24 n
-    → Holds (record { kind = k; value = v; size = s; read = n }) r₄
-filled r r₁ r₂ r₃ r₄ k v s n h e₁ e₂ e₃ e₄ = record { bytes = rw (e₄, e₃, e₂, e₁) (four-words r k v s n h) }
-
--- ---- the record of an answer of each kind
-module _ (a : Answer) (r′ : List ℕ) where
-  pub address-recorded : (v s n : ℕ) → a ≡ Address v s n → Holds (record { kind = 0; value = v; size = s; read = n }) r′ → Recorded a r′ 0
-  address-recorded v s n e h = rw e (record { words = h; number = refl })
-
-  pub fault-recorded : (cause : Cause) (level m n : ℕ) → a ≡ PageFault cause level m n → Holds (record { kind = 1; value = m; size = 0; read = n }) r′
-      → Recorded a r′ 0
-  fault-recorded cause level m n e h = rw e (record { words = h; number = refl })
-
-  pub refusal-recorded : (m : ℕ) → a ≡ Refused m → Holds (record { kind = 2; value = m; size = 0; read = 0 }) r′ → Recorded a r′ m
-  refusal-recorded m e h = rw e (record { words = h; number = refl })
-
-  pub done-recorded : a ≡ Done → Holds (record { kind = 3; value = 0; size = 0; read = 0 }) r′ → Recorded a r′ 0
-  done-recorded e h = rw e (record { words = h; number = refl })
-
--- ---- the answer bytes have the wrong length
-module _ (q : Request) (r b : List ℕ) (wrong : length r ≡ 32 → ⊥) where
-  pub turned-away : Passes q r r b b 1
-  turned-away = record { left = λ mem. sym (door-refused r b mem q wrong) }
-
-  pub turned-away-memory : (mem : Memory) → PassesMemory q r r b b mem mem 1
-  turned-away-memory mem = record { left = sym (door-refused r b mem q wrong) }
-
--- ---- the call is made, and its answer recorded
-module _ (q : Request) (r r′ b b′ : List ℕ) (a : Answer) (n : ℕ) (right : length r ≡ 32) (done : Recorded a r′ n) where
-  opened : (mem mem′ : Memory) → _≡_ {A = Outcome} (record { answer = a; image = b′; memory = mem′ }) (call b mem q)
-      → _≡_ {A = Left} (record { number = n; answer = r′; image = b′; memory = mem′ }) (door r b mem q)
-  opened mem mem′ e =
-      (λ i. record { number = done .number i; answer = done .words .bytes i; image = b′; memory = mem′ })
-      ∙ ap written e
-      ∙ sym (door-written r b mem q right)
-
-  pub answers : Leaves q b b′ a → Passes q r r′ b b′ n
-  answers h = record { left = λ mem. opened mem mem (h .outcome mem) }
-
-  pub answers-memory : (mem mem′ : Memory) → Translates q b b′ mem mem′ a → PassesMemory q r r′ b b′ mem mem′ n
-  answers-memory mem mem′ h = record { left = opened mem mem′ (h .outcome) }
+pub answers : (q : Request) (r r′ b b′ : List ℕ) (a : Answer) (n : ℕ) → length r ≡ 32 → Recorded a r′ n → Leaves q b b′ a → Passes q r r′ b b′ n
+answers q r r′ b b′ a n right done h =
+    record {
+      left = λ mem.
+          (λ i. record { number = done .number i; answer = done .words .bytes i; image = b′; memory = mem })
+          ∙ ap written (h .outcome mem)
+          ∙ sym (door-written r b mem q right);
+    }

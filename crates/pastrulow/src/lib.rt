@@ -1,72 +1,28 @@
 // The door for a host in C, which sees each slice as a pointer and then a length. A call answers in the 32 lent bytes and returns the refusal
 // number, or 0; where the answer bytes are not 32, it returns 1 and touches nothing.
 ghost use mathlib.Core.Path.{_≡_};
-ghost use lib.ListN.{length};
 ghost use Rattle.rules.specs.Refusals.{start, translate, invlpg, invpcid, writeCr3, writeMode};
 ghost use Rattle.journal.specs.Calls.{Clears, Reports};
-ghost use Rattle.pastrulow.specs.Door.{Passes, PassesMemory, Holds, Recorded, version};
-use rules::Answer;
+ghost use Rattle.translator.specs.Contract.{TranslatesInto};
+ghost use Rattle.pastrulow.specs.Door.{Passes, version};
 use translator::calls;
 use translator::translation;
 
-// The length of the answer record, and the refusal of answer bytes of any other length.
-const RECORD_LENGTH: usize = 32;
-
+// The refusal of answer bytes that are no record.
 const NO_RECORD: u64 = 1;
 
 // The header has the same number, for a host to compare.
 const VERSION: u64 = 2;
-
-// The record's four words.
-fn put(answer: &mut [u8], kind: u64, value: u64, size: u64, read: u64)
-    requires { ⌜ length (now answer) ≡ 32 ⌝ }
-    ensures { λ _. ⌜ Holds (record { kind = kind; value = value; size = size; read = read }) (now (answer .exit)) ⌝ }
-{
-    words::write_word(answer, 0, kind);
-    words::write_word(answer, 8, value);
-    words::write_word(answer, 16, size);
-    words::write_word(answer, 24, read);
-}
-
-// An answer is written as its record; a refusal's number is returned.
-fn write_record(answer: &mut [u8], a: Answer) -> u64
-    requires { ⌜ length (now answer) ≡ 32 ⌝ }
-    ensures { λ r. ⌜ Recorded a (now (answer .exit)) r ⌝ }
-{
-    match a {
-        Answer::Address { value, size, read } => {
-            put(answer, 0, value, size, read);
-            0
-        }
-        Answer::PageFault {
-            cause: _,
-            level: _,
-            code,
-            read,
-        } => {
-            put(answer, 1, code, 0, read);
-            0
-        }
-        Answer::Refused { number } => {
-            put(answer, 2, number, 0, 0);
-            number
-        }
-        Answer::Done => {
-            put(answer, 3, 0, 0, 0);
-            0
-        }
-    }
-}
 
 // The width is the physical width M, 36 to 52.
 #[no_mangle]
 pub extern "C" fn pastrulow_start(image: &mut [u8], width: u64, answer: &mut [u8]) -> u64
     ensures { λ r. ⌜ Passes (start width) (now (answer .entry)) (now (answer .exit)) (now (image .entry)) (now (image .exit)) r ⌝ }
 {
-    if answer.len() != RECORD_LENGTH {
+    if answer.len() != records::LENGTH {
         return NO_RECORD;
     }
-    write_record(answer, calls::start(image, width))
+    records::write_record(answer, calls::start(image, width))
 }
 
 // The kind is 0 for a read, 1 a write, 2 a fetch, by the supervisor; 3, 4, 5 for the same by the user.
@@ -78,22 +34,19 @@ pub extern "C" fn pastrulow_translate(
     address: u64,
     answer: &mut [u8],
 ) -> u64
-    ensures { λ r. ⌜ PassesMemory (translate kind address) (now (answer .entry)) (now (answer .exit)) (now (image .entry)) (now (image .exit)) (now (memory .entry)) (now (memory .exit)) r ⌝ }
+    ensures { λ r. ⌜ TranslatesInto (translate kind address) (now (answer .entry)) (now (answer .exit)) (now (image .entry)) (now (image .exit)) (now (memory .entry)) (now (memory .exit)) r ⌝ }
 {
-    if answer.len() != RECORD_LENGTH {
-        return NO_RECORD;
-    }
-    write_record(answer, translation::translate(image, memory, kind, address))
+    translation::translate_into(image, memory, kind, address, answer)
 }
 
 #[no_mangle]
 pub extern "C" fn pastrulow_invlpg(image: &mut [u8], address: u64, answer: &mut [u8]) -> u64
     ensures { λ r. ⌜ Passes (invlpg address) (now (answer .entry)) (now (answer .exit)) (now (image .entry)) (now (image .exit)) r ⌝ }
 {
-    if answer.len() != RECORD_LENGTH {
+    if answer.len() != records::LENGTH {
         return NO_RECORD;
     }
-    write_record(answer, calls::invlpg(image, address))
+    records::write_record(answer, calls::invlpg(image, address))
 }
 
 // The kind is the type of INVPCID, 0 to 3.
@@ -107,20 +60,20 @@ pub extern "C" fn pastrulow_invpcid(
 ) -> u64
     ensures { λ r. ⌜ Passes (invpcid kind pcid address) (now (answer .entry)) (now (answer .exit)) (now (image .entry)) (now (image .exit)) r ⌝ }
 {
-    if answer.len() != RECORD_LENGTH {
+    if answer.len() != records::LENGTH {
         return NO_RECORD;
     }
-    write_record(answer, calls::invpcid(image, kind, pcid, address))
+    records::write_record(answer, calls::invpcid(image, kind, pcid, address))
 }
 
 #[no_mangle]
 pub extern "C" fn pastrulow_write_cr3(image: &mut [u8], value: u64, answer: &mut [u8]) -> u64
     ensures { λ r. ⌜ Passes (writeCr3 value) (now (answer .entry)) (now (answer .exit)) (now (image .entry)) (now (image .exit)) r ⌝ }
 {
-    if answer.len() != RECORD_LENGTH {
+    if answer.len() != records::LENGTH {
         return NO_RECORD;
     }
-    write_record(answer, calls::write_cr3(image, value))
+    records::write_record(answer, calls::write_cr3(image, value))
 }
 
 // The flags are bit 0 PG, 1 WP, 2 PGE, 3 PCIDE, 4 NXE.
@@ -128,10 +81,10 @@ pub extern "C" fn pastrulow_write_cr3(image: &mut [u8], value: u64, answer: &mut
 pub extern "C" fn pastrulow_write_mode(image: &mut [u8], flags: u64, answer: &mut [u8]) -> u64
     ensures { λ r. ⌜ Passes (writeMode flags) (now (answer .entry)) (now (answer .exit)) (now (image .entry)) (now (image .exit)) r ⌝ }
 {
-    if answer.len() != RECORD_LENGTH {
+    if answer.len() != records::LENGTH {
         return NO_RECORD;
     }
-    write_record(answer, calls::write_mode(image, flags))
+    records::write_record(answer, calls::write_mode(image, flags))
 }
 
 // The journal's two calls write no answer record: they return 9, or 0.

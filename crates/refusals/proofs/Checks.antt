@@ -1,7 +1,7 @@
 -- The ways through the checks: what each return has to show, from the tests on its way. The image's words are read where its parts stand.
 use Prim.Native.Nat.{ℕ, _+_, _-_, _/_, _%_, _^_, _≤_, _<_}
 use mathlib.Core.Path.{_≡_, ap, sym, _∙_}
-use mathlib.Core.Bool.{Bool, true, false, cond, _&&_, _||_, not, or-true, or-false}
+use mathlib.Core.Bool.{Bool, true, false, true≢false, cond, _&&_, _||_, not, or-true, or-false}
 use mathlib.Core.List.{List, []}
 use native.Mathlib.Omega.{arith}
 use native.Mathlib.Decide.{decLt}
@@ -10,13 +10,14 @@ use lib.Seq.{take-all}
 use lib.Dec.{eqb, leb, ltb}
 use borrow.Author.Tests.{eq-eqb, ne-eqb, lt-ltb, le-ltb, le-leb, lt-leb}
 use Rattle.rules.specs.Bits.{wordsOf, isOn, part, wordAt}
-use Rattle.rules.specs.Image.{decode, control}
+use Rattle.rules.specs.Image.{decode, control, pg}
 use Rattle.rules.specs.Memory.{Memory}
 use Rattle.rules.specs.Refusals.{start, translate, canonical, isLong, isOutside, allZero, isUnfit, noAddress, noCr3, noMode, noInvpcid, refusal}
 use Rattle.rules.specs.declared.Control.{Control}
 use Rattle.rules.proofs.WordLaws.{zero-tail}
 use Rattle.rules.proofs.PlaceLaws.{width-at, flags-at, cr3-at, victims-at}
 use Rattle.rules.proofs.RefusalLaws.{fit}
+use Rattle.refusals.specs.Asked.{Asked}
 
 -- ---- the image
 pub not-long : (b : List ℕ) → (length b ≡ 2048 → ⊥) → true ≡ isUnfit b
@@ -40,6 +41,9 @@ module _ (b : List ℕ) (o : Bool) (e : o ≡ isUnfit b) (h : o ≡ false) where
   pub fit-long : length b ≡ 2048
   fit-long = fit b (sym e ∙ h) .long
 
+  pub flags-in : 8 + 8 ≤ length b
+  flags-in = omega (arith, fit-long)
+
   pub fit-narrow : decode b .width ≤ 52
   fit-narrow = fit b (sym e ∙ h) .narrow
 
@@ -55,23 +59,30 @@ alike a h c = go (decLt a (2 ^ 47)) (decLt a (2 ^ 64 - 2 ^ 47))
     go (no g) (yes k) = rw (le-ltb a (2 ^ 47) (omega arith), lt-leb (2 ^ 64 - 2 ^ 47) a k) (ne-eqb (halves a) 0 (λ e. omega arith))
     go (no g) (no k) = rw (le-ltb a (2 ^ 47) (omega arith), le-leb (2 ^ 64 - 2 ^ 47) a (omega arith)) (eq-eqb (halves a) 0 (omega arith))
 
--- ---- the conditions, over the words that were read
-module _ (b : List ℕ) (a f : ℕ) (hf : f ≡ wordAt b 8) where
-  module _ (p : Bool) (hp : p ≡ isOn 0 f) where
-    module _ (on : p ≡ true) (q : Bool) (hq : (c : Control) → q ≡ canonical c a) where
-      pub paged-taken : q ≡ true → _≡_ {A = ℕ} 0 (cond (noAddress (decode b) a) 5 0)
-      paged-taken t = rw (flags-at b, ← hf, ← hp, on, ← hq (control (decode b)), t)
+-- ---- the conditions
+module _ (b : List ℕ) (a : ℕ) (p : Bool) (hp : p ≡ pg (decode b .flags)) where
+  module _ (on : p ≡ true) (q : Bool) (hq : (c : Control) → q ≡ canonical c a) where
+    pub paged-taken : q ≡ true → _≡_ {A = ℕ} 0 (cond (noAddress (decode b) a) 5 0)
+    paged-taken t = rw (← hp, on, ← hq (control (decode b)), t)
 
-      pub paged-refused : q ≡ false → _≡_ {A = ℕ} 5 (cond (noAddress (decode b) a) 5 0)
-      paged-refused t = rw (flags-at b, ← hf, ← hp, on, ← hq (control (decode b)), t)
+    pub paged-refused : q ≡ false → _≡_ {A = ℕ} 5 (cond (noAddress (decode b) a) 5 0)
+    paged-refused t = rw (← hp, on, ← hq (control (decode b)), t)
 
-    module _ (off : p ≡ false) where
-      pub flat-refused : 0x100000000 ≤ a → _≡_ {A = ℕ} 5 (cond (noAddress (decode b) a) 5 0)
-      flat-refused h = rw (flags-at b, ← hf, ← hp, off, le-leb 0x100000000 a h)
+  module _ (off : p ≡ false) where
+    pub flat-refused : 0x100000000 ≤ a → _≡_ {A = ℕ} 5 (cond (noAddress (decode b) a) 5 0)
+    flat-refused h = rw (← hp, off, le-leb 0x100000000 a h)
 
-      pub flat-taken : a < 0x100000000 → _≡_ {A = ℕ} 0 (cond (noAddress (decode b) a) 5 0)
-      flat-taken h = rw (flags-at b, ← hf, ← hp, off, lt-leb 0x100000000 a h)
+    pub flat-taken : a < 0x100000000 → _≡_ {A = ℕ} 0 (cond (noAddress (decode b) a) 5 0)
+    flat-taken h = rw (← hp, off, lt-leb 0x100000000 a h)
 
+pub never : (u x : Bool) → u ≡ true → u ≡ false → false ≡ x
+never u x t f = absurd (true≢false (sym t ∙ f))
+
+pub paging-is : (b : List ℕ) (f : ℕ) (p : Bool) → f ≡ wordAt b 8 → p ≡ isOn 0 f → p ≡ pg (decode b .flags)
+paging-is b f p hf hp = hp ∙ ap (isOn 0) (hf ∙ sym (flags-at b))
+
+-- over the words that were read
+module _ (b : List ℕ) (f : ℕ) (hf : f ≡ wordAt b 8) where
   pub no-cr3-is : (w v n : ℕ) (p q : Bool) → w ≡ wordAt b 0 → n ≡ part 63 w v → p ≡ isOn 3 f → q ≡ isOn 63 v
       → (not (eqb n 0) || (q && not p)) ≡ noCr3 (decode b) v
   no-cr3-is w v n p q hw hn hp hq = rw (flags-at b, width-at b, ← hf, ← hw, ← hp, ← hq, ← hn)
@@ -120,12 +131,17 @@ at-neither u v o p n e t g y = rw (← e, t, ← g, y)
 pub at-none : (u o : Bool) → o ≡ u → o ≡ false → _≡_ {A = ℕ} 0 (cond u 2 0)
 at-none u o e t = rw (← e, t)
 
-module _ (b : List ℕ) (mem : Memory) (k a : ℕ) (o : Bool) (fit : o ≡ isUnfit b) (yes-fit : o ≡ false) where
-  pub no-kind : 5 < k → 3 ≡ refusal b mem (translate k a)
-  no-kind h = rw (← fit, yes-fit, lt-ltb 5 k h)
+module _ (b : List ℕ) (mem : Memory) (k a m : ℕ) (u p : Bool) (asked : Asked b mem u m p) where
+  pub by-image : u ≡ true → 2 ≡ refusal b mem (translate k a)
+  by-image t = rw (← asked .image, t)
 
-  pub ragged : k ≤ 5 → (length mem % 4096 ≡ 0 → ⊥) → 4 ≡ refusal b mem (translate k a)
-  ragged h r = rw (← fit, yes-fit, le-ltb 5 k h, ne-eqb (length mem % 4096) 0 r)
+  module _ (fits : u ≡ false) where
+    pub no-kind : 5 < k → 3 ≡ refusal b mem (translate k a)
+    no-kind h = rw (← asked .image, fits, lt-ltb 5 k h)
 
-  pub by-address : k ≤ 5 → length mem % 4096 ≡ 0 → (n : ℕ) → n ≡ cond (noAddress (decode b) a) 5 0 → n ≡ refusal b mem (translate k a)
-  by-address h r n e = rw (← fit, yes-fit, le-ltb 5 k h, eq-eqb (length mem % 4096) 0 r) e
+    pub ragged : k ≤ 5 → (m ≡ 0 → ⊥) → 4 ≡ refusal b mem (translate k a)
+    ragged h r = rw (← asked .image, fits, le-ltb 5 k h, ← asked .memory, ne-eqb m 0 r)
+
+    pub by-address : k ≤ 5 → m ≡ 0 → (n : ℕ) → ((c : List ℕ) → p ≡ pg (decode c .flags) → n ≡ cond (noAddress (decode c) a) 5 0)
+        → n ≡ refusal b mem (translate k a)
+    by-address h r n g = rw (← asked .image, fits, le-ltb 5 k h, ← asked .memory, eq-eqb m 0 r) (g b (asked .paging fits))

@@ -1,12 +1,14 @@
 // Which calls are refused: the lowest number that applies to a call, or 0.
 ghost use mathlib.Core.Path.{_≡_};
-ghost use Prim.Native.Nat.{_≤_};
-ghost use mathlib.Core.Bool.{cond};
-ghost use mathlib.Core.List.{[]};
+ghost use Prim.Native.Nat.{ℕ, _%_, _≤_};
+ghost use mathlib.Core.Bool.{false, cond};
+ghost use mathlib.Core.List.{List, []};
 ghost use lib.ListN.{length};
-ghost use Rattle.rules.specs.Image.{decode};
+ghost use Rattle.rules.specs.Image.{decode, pg};
+ghost use Rattle.rules.specs.Memory.{Memory};
 ghost use Rattle.rules.specs.Refusals.{start, translate, invlpg, invpcid, writeCr3, writeMode, canonical, isOutside, isUnfit, noAddress, noCr3, noMode, noInvpcid, refusal};
 ghost use Rattle.rules.specs.declared.Control.{Control};
+ghost use Rattle.refusals.specs.Asked.{Asked};
 
 fn is_outside(width: u64) -> bool
     ensures { λ r. ⌜ r ≡ isOutside width ⌝ }
@@ -15,7 +17,7 @@ fn is_outside(width: u64) -> bool
 }
 
 // The bytes are no image that a call other than start takes.
-fn is_unfit(image: &[u8]) -> bool
+pub fn is_unfit(image: &[u8]) -> bool
     ensures { λ r. ⌜ r ≡ isUnfit (now (image .entry)) ⌝ }
 {
     if image.len() != 2048 {
@@ -37,12 +39,11 @@ pub fn is_canonical(a: u64) -> bool
     (a / 0x8000_0000_0000 + 1) / 2 % 0x1_0000 == 0
 }
 
-// The address's own refusal, or 0. Paging is asked once, and each answer goes its own way.
-fn address_refusal(image: &[u8], a: u64) -> u64
-    requires { ⌜ length (now image) ≡ 2048 ⌝ }
-    ensures { λ r. ⌜ r ≡ cond (noAddress (decode (now (image .entry))) a) 5 0 ⌝ }
+// The address's own refusal, or 0.
+fn address_refusal(paged: bool, a: u64) -> u64
+    ensures { λ r. ⌜ ((b : List ℕ) → paged ≡ pg (decode b .flags) → r ≡ cond (noAddress (decode b) a) 5 0) ⌝ }
 {
-    if words::is_on(0, words::read_word(image, 8)) {
+    if paged {
         if is_canonical(a) {
             return 0;
         }
@@ -100,19 +101,38 @@ pub fn start_refusal(image: &[u8], width: u64) -> u64
     0
 }
 
-pub fn translate_refusal(image: &[u8], mem: &[u8], kind: u64, a: u64) -> u64
-    ensures { λ r. ⌜ r ≡ refusal (now (image .entry)) (now (mem .entry)) (translate kind a) ⌝ }
+// How many bytes of guest memory fill no page.
+pub fn beyond_pages(mem: &[u8]) -> usize
+    ensures { λ r. ⌜ r ≡ length (now (mem .entry)) % 4096 ⌝ }
 {
-    if is_unfit(image) {
+    mem.len() % 4096
+}
+
+// Whether paging is on, of an image that is fit.
+pub fn is_paged(image: &[u8], unfit: bool) -> bool
+    requires { ⌜ unfit ≡ isUnfit (now image) ⌝ }
+    ensures { λ r. ⌜ (unfit ≡ false → r ≡ pg (decode (now (image .entry)) .flags)) ⌝ }
+{
+    if unfit {
+        return false;
+    }
+    words::is_on(0, words::read_word(image, 8))
+}
+
+// What is alike for every address the caller has asked already, once for as many as it asks for.
+pub fn translate_refusal(unfit: bool, beyond: usize, paged: bool, kind: u64, a: u64) -> u64
+    ensures { λ r. ⌜ ((b : List ℕ) (mem : Memory) → Asked b mem unfit beyond paged → r ≡ refusal b mem (translate kind a)) ⌝ }
+{
+    if unfit {
         return 2;
     }
     if 5 < kind {
         return 3;
     }
-    if mem.len() % 4096 != 0 {
+    if beyond != 0 {
         return 4;
     }
-    address_refusal(image, a)
+    address_refusal(paged, a)
 }
 
 pub fn invlpg_refusal(image: &[u8], a: u64) -> u64

@@ -1,4 +1,3 @@
 pub mod Calling
-pub mod Pages
 pub mod Translating
 pub mod Unique

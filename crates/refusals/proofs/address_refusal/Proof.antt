@@ -4,12 +4,6 @@ use borrow.Author.Needs.{needs}
 use Rattle.refusals.proofs.address_refusal.Statement.{statement}
 use Rattle.refusals.proofs.address_refusal.Tie as tie
 
-read-word-requires : tie.Need-read-word-requires
-read-word-requires c κs = search needs
-
-is-on-requires : tie.Need-is-on-requires
-is-on-requires c κs = search needs
-
 is-canonical-requires : tie.Need-is-canonical-requires
 is-canonical-requires c κs = search needs
 
@@ -29,8 +23,6 @@ pub address-refusal-spec : {M : Type 1} → statement M
 address-refusal-spec =
     tie.close
     (tie.spec
-    read-word-requires
-    is-on-requires
     is-canonical-requires
     returns
     returns-2

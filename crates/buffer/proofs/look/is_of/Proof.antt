@@ -4,9 +4,6 @@ use borrow.Author.Needs.{needs}
 use Rattle.buffer.proofs.look.is_of.Statement.{statement}
 use Rattle.buffer.proofs.look.is_of.Tie as tie
 
-mul-read-word : tie.Need-mul-read-word
-mul-read-word c = search needs
-
 add-read-word : tie.Need-add-read-word
 add-read-word c = search needs
 
@@ -17,4 +14,4 @@ returns : tie.Need-returns
 returns c = search own-test
 
 pub is-of-spec : {M : Type 1} → statement M
-is-of-spec = tie.close (tie.spec mul-read-word add-read-word read-word-requires returns)
+is-of-spec = tie.close (tie.spec add-read-word read-word-requires returns)

@@ -26,14 +26,14 @@ page-number-requires c κs = search way-size
 set-of-requires : tie.Need-set-of-requires Inv-loop μ-loop
 set-of-requires c κs = search way-size
 
-mul-i : tie.Need-mul-i Inv-loop μ-loop
-mul-i c = search needs
+mul-at : tie.Need-mul-at Inv-loop μ-loop
+mul-at c = search needs
 
-add-i : tie.Need-add-i Inv-loop μ-loop
-add-i c = search needs
+add-at : tie.Need-add-at Inv-loop μ-loop
+add-at c = search needs
 
-mul-holds-page : tie.Need-mul-holds-page Inv-loop μ-loop
-mul-holds-page c = search needs
+mul-at-2 : tie.Need-mul-at-2 Inv-loop μ-loop
+mul-at-2 c = search needs
 
 add-holds-page : tie.Need-add-holds-page Inv-loop μ-loop
 add-holds-page c = search needs
@@ -70,9 +70,9 @@ look-all-spec =
     size-at-requires
     page-number-requires
     set-of-requires
-    mul-i
-    add-i
-    mul-holds-page
+    mul-at
+    add-at
+    mul-at-2
     add-holds-page
     holds-page-requires
     is-of-requires

@@ -1,10 +1,42 @@
--- Refused, or accepted: then the bytes are an image's with a width (`u`), and paging is on or off.
+-- Refused, or accepted (`taken`): paging is off, or what is held answers, or the walk.
+use mathlib.Core.Path.{_≡_}
+use mathlib.Core.Bool.{true, false}
 use native.Mathlib.Omega.{arith}
-use Rattle.translator.proofs.Calling.{call-room}
-use Rattle.translator.proofs.Translating.{refuses-it, use-image, whole, known, pages, flat}
+use Rattle.rules.specs.Image.{decode, pg}
+use Rattle.rules.specs.Refusals.{translate, refusal}
+use Rattle.refusals.specs.Asked.{Asked}
+use Rattle.paging.proofs.Serving.{still-usable}
+use Rattle.translator.proofs.Translating.{refuses-plainly, Accepts, accepts, paging-on, paging-off, known, usable, whole, flat-plainly, by-held, by-plain-walk}
 use borrow.Author.Needs.{needs}
 use Rattle.translator.proofs.translation.translate.Statement.{statement}
 use Rattle.translator.proofs.translation.translate.Tie as tie
+
+abbrev start : tie.After-translate-refusal → tie.Start
+start t = t .before .before .before .before .before .before .before .before .before
+
+asked : (t : tie.After-translate-refusal) → Asked (start t .args .image .now) (start t .args .mem .now) (t .before .before .before .before .before .is-unfit .result) (t .before .before .before .beyond-pages .result) (t .before .is-paged .result)
+asked t = record { image = t .before .before .before .before .before .is-unfit .ensures; memory = t .before .before .before .beyond-pages .ensures; paging = t .before .is-paged .ensures }
+
+number : (t : tie.After-translate-refusal) → t .translate-refusal .result ≡ refusal (start t .args .image .now) (start t .args .mem .now) (translate (start t .args .kind) (start t .args .a))
+number t = t .translate-refusal .ensures (start t .args .image .now) (start t .args .mem .now) (asked t)
+
+taken : (e : tie.Else1) → Accepts (start (e .before) .args .image .now) (start (e .before) .args .mem .now) (start (e .before) .args .kind) (start (e .before) .args .a)
+taken e = accepts _ _ _ _ (e .before .translate-refusal .result) (number (e .before)) (e .if1 .left) (λ j. omega (arith, e .before .before .before .before .before .before .before .before .before .slice-known .given j))
+
+off : (p : tie.Then2) → pg (decode (start (p .before .before) .args .image .now) .flags) ≡ false
+off p = paging-off _ _ _ _ (taken (p .before)) _ _ _ (asked (p .before .before)) (p .if2 .taken)
+
+on : (p : tie.Else2) → pg (decode (start (p .before .before) .args .image .now) .flags) ≡ true
+on p = paging-on _ _ _ _ (taken (p .before)) _ _ _ (asked (p .before .before)) (p .if2 .left)
+
+is-unfit-requires : tie.Need-is-unfit-requires
+is-unfit-requires c κs = search needs
+
+beyond-pages-requires : tie.Need-beyond-pages-requires
+beyond-pages-requires c κs = search needs
+
+is-paged-requires : tie.Need-is-paged-requires
+is-paged-requires c κs = search needs
 
 translate-refusal-requires : tie.Need-translate-refusal-requires
 translate-refusal-requires c κs = search needs
@@ -16,20 +48,9 @@ same-length-2 : tie.Need-same-length-2
 same-length-2 c = search needs
 
 returns : tie.Need-returns
-returns c = search refuses-it
-
-read-word-requires : tie.Need-read-word-requires
-read-word-requires c κs = search (call-room, needs)
-
-is-on-requires : tie.Need-is-on-requires
-is-on-requires c κs = search needs
-
-paged-requires : tie.Need-paged-requires
-paged-requires c κs =
-    let s = c .before .before .before .before .before .before in
-    let k = s .before .before .before .before .before in
-    let u = use-image (k .before .args .image .now) (k .before .args .mem .now) (k .before .args .kind) (k .before .args .a) (s .before .translate-refusal .result) (s .before .translate-refusal .ensures) (s .if1 .left) (λ j. omega (arith, k .slice-known .given j)) in
-    (u, (search whole, search known))
+returns c =
+    let h = number (c .before) in
+    search (refuses-plainly, h)
 
 same-length-3 : tie.Need-same-length-3
 same-length-3 c = search needs
@@ -38,7 +59,26 @@ same-length-4 : tie.Need-same-length-4
 same-length-4 c = search needs
 
 returns-2 : tie.Need-returns-2
-returns-2 c = search pages
+returns-2 c = flat-plainly _ _ _ _ (taken (c .before)) (off c)
+
+find-held-requires : tie.Need-find-held-requires
+find-held-requires c κs =
+    let x = taken (c .before .before) in
+    (usable _ _ _ _ x, known _ _ _ _ x)
+
+enum-known-value : tie.Need-enum-known-value
+enum-known-value c = search needs
+
+enum-told : tie.Need-enum-told
+enum-told c = search needs
+
+walked-requires : tie.Need-walked-requires
+walked-requires c κs =
+    let f = c .before .before .before .before .before .before in
+    let e = f .before .before .before in (
+      still-usable _ _ (start (e .before) .args .mem .now) (start (e .before) .args .kind) (start (e .before) .args .a) (f .find-held .result) (f .find-held .ensures) (search needs),
+      (whole _ _ _ _ (taken e), known _ _ _ _ (taken e)),
+    )
 
 same-length-5 : tie.Need-same-length-5
 same-length-5 c = search needs
@@ -48,25 +88,42 @@ same-length-6 c = search needs
 
 returns-3 : tie.Need-returns-3
 returns-3 c =
-    let s = c .before .before .before .before in
-    let k = s .before .before .before .before .before in
-    let u = use-image (k .before .args .image .now) (k .before .args .mem .now) (k .before .args .kind) (k .before .args .a) (s .before .translate-refusal .result) (s .before .translate-refusal .ensures) (s .if1 .left) (λ j. omega (arith, k .slice-known .given j)) in
-    search (flat, u)
+    let f = c .before .before .before .before .before in
+    by-held _ _ _ _ (taken (c .before .before .before .before .before .before .before .before)) (on (c .before .before .before .before .before .before .before)) _ (f .find-held .result) (f .find-held .ensures) _ _ (search needs)
+
+same-length-7 : tie.Need-same-length-7
+same-length-7 c = search needs
+
+same-length-8 : tie.Need-same-length-8
+same-length-8 c = search needs
+
+returns-4 : tie.Need-returns-4
+returns-4 c =
+    let w = c .before .before .before .before in
+    let f = w .before .before .before .before .before .before .before in
+    by-plain-walk _ _ _ _ (taken (c .before .before .before .before .before .before .before .before .before .before .before .before .before .before)) (on (c .before .before .before .before .before .before .before .before .before .before .before .before .before)) _ (f .find-held .result) (f .find-held .ensures) (search needs) _ _ _ (w .walked .ensures)
 
 pub translate-spec : {M : Type 1} → statement M
 translate-spec =
     tie.close
     (tie.spec
+    is-unfit-requires
+    beyond-pages-requires
+    is-paged-requires
     translate-refusal-requires
     same-length
     same-length-2
     returns
-    read-word-requires
-    is-on-requires
-    paged-requires
     same-length-3
     same-length-4
     returns-2
+    find-held-requires
+    enum-known-value
+    enum-told
+    walked-requires
     same-length-5
     same-length-6
-    returns-3)
+    returns-3
+    same-length-7
+    same-length-8
+    returns-4)

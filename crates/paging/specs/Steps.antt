@@ -1,0 +1,80 @@
+-- The steps of a translation, over the image's bytes: what each is lent, and what it writes.
+use Prim.Native.Nat.{ℕ, _/_, _%_, _^_, _≤_, _<_}
+use mathlib.Core.Path.{_≡_}
+use mathlib.Core.Bool.{Bool, cond, _&&_}
+use mathlib.Core.List.{List}
+use lib.ListN.{length}
+use Rattle.rules.specs.Sizes.{sizeOf}
+use Rattle.rules.specs.Image.{Image, encode, decode, control, pcid, IsImage}
+use Rattle.rules.specs.Memory.{Memory}
+use Rattle.rules.specs.Walk.{walk}
+use Rattle.rules.specs.Buffer.{find, serves, hitAddress, filled}
+use Rattle.rules.specs.Answers.{answerOf, numbers, recordBytes}
+use Rattle.rules.specs.Calls.{After, looked}
+use Rattle.rules.specs.declared.Access.{Access}
+use Rattle.rules.specs.declared.Found.{Found}
+use Rattle.rules.specs.declared.Found.the-variants.{Page, Fault}
+use Rattle.rules.specs.declared.Answer.{Answer}
+use Rattle.rules.specs.declared.Answer.the-variants.{Address}
+use Rattle.sets.specs.Ways.{tagIn}
+use Rattle.buffer.specs.Look.{isOf}
+use Rattle.records.specs.Record.{Recorded}
+use Rattle.paging.specs.declared.Held.{Held}
+use Rattle.paging.specs.declared.Held.the-variants.{Page as HeldPage, Nothing}
+
+-- ---- what is lent
+-- the bytes of an image, with a width
+pub record Usable (b : List ℕ) : Type 0 where
+  pub image : IsImage b
+  pub wide : 36 ≤ decode b .width
+  pub narrow : decode b .width ≤ 52
+
+-- such an image, a record's room, whole words of memory, and a kind that there is
+pub record Lent (b r : List ℕ) (mem : Memory) (k : ℕ) : Type 0 where
+  pub usable : Usable b
+  pub room : length r ≡ 32
+  pub whole : length mem % 8 ≡ 0
+  pub known : k ≤ 5
+
+-- ---- what is left: the answer, bytes and memory of an outcome over parts
+pub record Encodes (o : After) (b′ : List ℕ) (mem′ : Memory) (r : Answer) : Type 0 where
+  pub answer : r ≡ o .answer
+  pub image : b′ ≡ encode (o .image)
+  pub memory : mem′ ≡ o .memory
+
+-- the same with the answer in its record, and the number that is returned
+pub record Writes (o : After) (r′ b′ : List ℕ) (mem′ : Memory) (n : ℕ) : Type 0 where
+  pub answer : Recorded (o .answer) r′ n
+  pub image : b′ ≡ encode (o .image)
+  pub memory : mem′ ≡ o .memory
+
+-- ---- the walk
+-- a finding as a walk makes it: a page's base and level are in their ranges
+abbrev pub InRange : Found → Type 0
+InRange (Page base level r global dirty n) = (base < 2 ^ 52) × ((1 ≤ level) × (level ≤ 3))
+InRange (Fault cause level n) = Unit {0}
+
+-- a finding is filled into the image, and answered
+pub record Finishes (b b′ : List ℕ) (k : Access) (a : ℕ) (f : Found) (r : Answer) : Type 0 where
+  pub image : b′ ≡ encode (filled (decode b) a f)
+  pub answer : r ≡ answerOf (control (decode b)) k a f
+
+-- the same of the finding of the walk, over the image s
+abbrev pub missed : Image → Memory → Access → ℕ → After
+missed s mem k a =
+    record {
+      answer = answerOf (control s) k a (walk (control s) k a mem .found);
+      image = filled s a (walk (control s) k a mem .found);
+      memory = walk (control s) k a mem .memory;
+    }
+
+-- ---- what is held, all ways looked at: a page that answers, and nothing changes; or nothing, and what is left is walked for
+abbrev pub Finds : List ℕ → List ℕ → Access → ℕ → Held → Type 0
+Finds b b′ k a (HeldPage v l) =
+    (b′ ≡ b) × ((mem : Memory) → looked (decode b) mem k a (find (decode b) a) ≡ record { answer = Address v l 0; image = decode b; memory = mem })
+Finds b b′ k a Nothing = Usable b′ × ((mem : Memory) → looked (decode b) mem k a (find (decode b) a) ≡ missed (decode b′) mem k a)
+
+-- ---- a held page: the slot at a place answers if it is one's own and allows the access; then its record is written, else nothing
+pub record Serves (b : List ℕ) (at l : ℕ) (k : Access) (a : ℕ) (r r′ : List ℕ) (v : Bool) : Type 0 where
+  pub told : v ≡ (isOf (pcid (decode b)) (tagIn b (at / 16)) && serves (control (decode b)) k (decode b .slots (at / 16) .datum))
+  pub answer : r′ ≡ cond v (recordBytes (numbers (Address (hitAddress (sizeOf (at / 16)) (decode b .slots (at / 16) .datum) a) l 0))) r

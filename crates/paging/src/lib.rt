@@ -1,0 +1,185 @@
+// An accepted translation with paging on: from the buffer where a held page serves, else by the walk, whose finding is kept. Plainly, as an answer; and by steps into a
+// record, small pages first.
+ghost use mathlib.Core.Path.{_≡_};
+ghost use mathlib.Core.List.{_++_};
+ghost use Prim.Native.Nat.{_%_, _^_, _≤_, _<_};
+ghost use lib.ListN.{length};
+ghost use Rattle.rules.specs.Image.{encode, decode, control, IsImage};
+ghost use Rattle.rules.specs.Buffer.{filled, find};
+ghost use Rattle.rules.specs.Calls.{accessOf, looked};
+ghost use Rattle.rules.specs.Sizes.{Is, small, middle, ways};
+ghost use Rattle.rules.specs.declared.Found.the-variants.{Page};
+ghost use Rattle.buffer.specs.Look.{Right, FirstHeld};
+ghost use Rattle.buffer.specs.declared.look.Place.the-variants.{At, Nowhere};
+ghost use Rattle.paging.specs.Steps.{Usable, Lent, InRange, Finishes, missed as missedOf, Encodes, Writes, Finds, Serves};
+use buffer::look;
+use buffer::look::Place;
+use rules::Answer;
+use rules::Control;
+use rules::Found;
+use rules::Rights;
+use rules::Size;
+use sets::size;
+
+// What is held for an address: a page that answers, by the physical address and the page's length; or nothing, once what does not answer has gone.
+pub enum Held {
+    Page(u64, u64),
+    Nothing,
+}
+
+// What a walk goes by.
+fn control_of(image: &[u8]) -> Control
+    requires { ⌜ Usable (now image) ⌝ }
+    ensures { λ r. ⌜ r ≡ control (decode (now (image .entry))) ⌝ }
+{
+    let width = words::read_word(image, 0);
+    Control {
+        width,
+        flags: words::read_word(image, 8),
+        root: words::part(width, 12, words::read_word(image, 16)),
+        pcid: numbers::pcid_of(image),
+    }
+}
+
+// A page that a walk reached is stored in its set.
+fn keep(image: &mut [u8], z: Size, a: u64, r: Rights, global: bool, dirty: bool, base: u64)
+    requires { ⌜ IsImage (now image) × (Is z × (base < 2 ^ 52)) ⌝ }
+    ensures { λ _. ⌜ now (image .exit) ≡ encode (filled (decode (now (image .entry))) a (Page base (z .level) r global dirty 0)) ⌝ }
+{
+    let number = size::page_number(z, a);
+    let set = size::set_of(z, number) as usize;
+    let global = words::is_on(2, words::read_word(image, 8)) & global;
+    let tag = numbers::tag_of(global, numbers::pcid_of(image), number);
+    buffer::fill::fill(image, set, tag, numbers::datum_of(r, dirty, base));
+}
+
+// What a walk found is answered; a page is kept as well.
+fn finish(image: &mut [u8], flags: u64, kind: u64, a: u64, f: Found) -> Answer
+    requires { ⌜ IsImage (now image) × ((flags ≡ decode (now image) .flags) × ((kind ≤ 5) × InRange f)) ⌝ }
+    ensures { λ r. ⌜ Finishes (now (image .entry)) (now (image .exit)) (accessOf kind) a f r ⌝ }
+{
+    match f {
+        Found::Page {
+            base,
+            level,
+            rights,
+            global,
+            dirty,
+            read,
+        } => {
+            let z = size::size_at(level);
+            keep(image, z, a, rights, global, dirty, base);
+            let size = z.length;
+            let value = base + a % size;
+            Answer::Address { value, size, read }
+        }
+        Found::Fault { cause, level, read } => {
+            let code = numbers::code_of(numbers::tells_fetch(flags), kind, cause);
+            Answer::PageFault {
+                cause,
+                level,
+                code,
+                read,
+            }
+        }
+    }
+}
+
+// The walk is made, and finished.
+pub fn walked(image: &mut [u8], mem: &mut [u8], kind: u64, a: u64) -> Answer
+    requires { ⌜ Usable (now image) × ((length (now mem) % 8 ≡ 0) × (kind ≤ 5)) ⌝ }
+    ensures { λ r. ⌜ Encodes (missedOf (decode (now (image .entry))) (now (mem .entry)) (accessOf kind) a) (now (image .exit)) (now (mem .exit)) r ⌝ }
+{
+    let c = control_of(image);
+    let need = numbers::needed(c.flags, kind);
+    let f = walk::walk(mem, c, need, a);
+    finish(image, c.flags, kind, a, f)
+}
+
+// All ways are gone through: the first match answers, or what matches goes.
+pub fn find_held(image: &mut [u8], kind: u64, a: u64) -> Held
+    requires { ⌜ Usable (now image) × (kind ≤ 5) ⌝ }
+    ensures { λ r. ⌜ Finds (now (image .entry)) (now (image .exit)) (accessOf kind) a r ⌝ }
+{
+    let pcid = numbers::pcid_of(image);
+    match look::look_all(image, a, pcid) {
+        Place::At(at, size) => {
+            let d = words::read_word(image, 40 + at);
+            if numbers::serves(words::read_word(image, 8), kind, d) {
+                return Held::Page(numbers::hit_address(d, a, size), size);
+            }
+            drops::drop_matches(image, a, pcid);
+            Held::Nothing
+        }
+        Place::Nowhere => Held::Nothing,
+    }
+}
+
+// The steps into a record. One that cannot answer calls the next one last, with what it was given and in that order, so that the call is a jump.
+pub fn missed(image: &mut [u8], answer: &mut [u8], mem: &mut [u8], kind: u64, a: u64) -> u64
+    requires { ⌜ Lent (now image) (now answer) (now mem) kind ⌝ }
+    ensures { λ r. ⌜ Writes (missedOf (decode (now (image .entry))) (now (mem .entry)) (accessOf kind) a) (now (answer .exit)) (now (image .exit)) (now (mem .exit)) r ⌝ }
+{
+    records::write_record(answer, walked(image, mem, kind, a))
+}
+
+// Whether the slot at a place answers: it is one's own, and its page allows the access. Then its answer is written.
+pub fn serve(image: &[u8], answer: &mut [u8], at: usize, size: u64, kind: u64, a: u64) -> bool
+    requires { ⌜ (length (now image) ≡ 2048) × ((length (now answer) ≡ 32) × ((kind ≤ 5) × Right (At at size))) ⌝ }
+    ensures { λ r. ⌜ Serves (now (image .entry)) at size (accessOf kind) a (now (answer .entry)) (now (answer .exit)) r ⌝ }
+{
+    if look::is_of(image, at, numbers::pcid_of(image)) {
+        let d = words::read_word(image, 40 + at);
+        if numbers::serves(words::read_word(image, 8), kind, d) {
+            records::put(answer, 0, numbers::hit_address(d, a, size), size, 0);
+            return true;
+        }
+    }
+    false
+}
+
+// A page is held, and is another's or does not allow the access.
+pub fn look_through(image: &mut [u8], answer: &mut [u8], mem: &mut [u8], kind: u64, a: u64) -> u64
+    requires { ⌜ Lent (now image) (now answer) (now mem) kind ⌝ }
+    ensures { λ r. ⌜ Writes (looked (decode (now (image .entry))) (now (mem .entry)) (accessOf kind) a (find (decode (now (image .entry))) a)) (now (answer .exit)) (now (image .exit)) (now (mem .exit)) r ⌝ }
+{
+    match find_held(image, kind, a) {
+        Held::Page(value, size) => {
+            records::put(answer, 0, value, size, 0);
+            0
+        }
+        Held::Nothing => missed(image, answer, mem, kind, a),
+    }
+}
+
+// No page of 4 KiB or 2 MiB is held: one of 1 GiB, then the walk.
+pub fn look_large(image: &mut [u8], answer: &mut [u8], mem: &mut [u8], kind: u64, a: u64) -> u64
+    requires { ⌜ Lent (now image) (now answer) (now mem) kind × FirstHeld (now image) a (ways small a ++ ways middle a) Nowhere ⌝ }
+    ensures { λ r. ⌜ Writes (looked (decode (now (image .entry))) (now (mem .entry)) (accessOf kind) a (find (decode (now (image .entry))) a)) (now (answer .exit)) (now (image .exit)) (now (mem .exit)) r ⌝ }
+{
+    match look::large(image, a) {
+        Place::At(at, size) => {
+            if serve(image, answer, at, size, kind, a) {
+                return 0;
+            }
+            look_through(image, answer, mem, kind, a)
+        }
+        Place::Nowhere => missed(image, answer, mem, kind, a),
+    }
+}
+
+// No page of 4 KiB is held: one of 2 MiB, then the larger.
+pub fn look_middle(image: &mut [u8], answer: &mut [u8], mem: &mut [u8], kind: u64, a: u64) -> u64
+    requires { ⌜ Lent (now image) (now answer) (now mem) kind × FirstHeld (now image) a (ways small a) Nowhere ⌝ }
+    ensures { λ r. ⌜ Writes (looked (decode (now (image .entry))) (now (mem .entry)) (accessOf kind) a (find (decode (now (image .entry))) a)) (now (answer .exit)) (now (image .exit)) (now (mem .exit)) r ⌝ }
+{
+    match look::middle(image, a) {
+        Place::At(at, size) => {
+            if serve(image, answer, at, size, kind, a) {
+                return 0;
+            }
+            look_through(image, answer, mem, kind, a)
+        }
+        Place::Nowhere => look_large(image, answer, mem, kind, a),
+    }
+}
