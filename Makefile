@@ -81,7 +81,7 @@ $(HOST):
 	@mkdir -p $(HOST)
 
 TEST := host/tests
-MODEL := $(addprefix $(TEST)/model_,image.c walk.c buffer.c calls.c translate.c)
+MODEL := $(addprefix $(TEST)/model_,image.c walk.c buffer.c calls.c translate.c many.c)
 DIFFERENTIAL := $(addprefix $(TEST)/,differential.c call.c lent.c guest.c random.c events.c) $(MODEL)
 JOURNAL := $(addprefix $(TEST)/,journal.c journal_history.c journal_made.c model_journal.c model_history.c model_image.c \
     events.c machine.c random.c)

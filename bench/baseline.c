@@ -123,13 +123,9 @@ APART uint64_t drop_and_walk(uint8_t *image, uint8_t *answer, uint8_t *memory, s
     return walk_tables(image, answer, memory, memory_len, kind, address);
 }
 
-/* Translate where a refusal from 2 on, or paging off, makes it short. The image has its length. */
-APART uint64_t translate_oddly(uint8_t *image, uint8_t *answer, uint8_t *memory, size_t memory_len, uint64_t kind,
-                               uint64_t address)
+/* Translate where a refusal from 3 on, or paging off, makes it short. */
+PART uint64_t translate_shortly(const uint8_t *image, uint8_t *answer, size_t memory_len, uint64_t kind, uint64_t address)
 {
-    (void)memory;
-    if (!image_fits(image))
-        return refuse(answer, 2);
     if (kind > 5)
         return refuse(answer, 3);
     if (memory_len % PASTRULOW_PAGE_BYTES != 0)
@@ -139,12 +135,20 @@ APART uint64_t translate_oddly(uint8_t *image, uint8_t *answer, uint8_t *memory,
     return answer_words(answer, PASTRULOW_ADDRESS, address, 0, 0);
 }
 
+/* The same where the image may be refused too. It has its length. */
+APART uint64_t translate_oddly(uint8_t *image, uint8_t *answer, uint8_t *memory, size_t memory_len, uint64_t kind,
+                               uint64_t address)
+{
+    (void)memory;
+    return image_fits(image) ? translate_shortly(image, answer, memory_len, kind, address) : refuse(answer, 2);
+}
+
 /* A slot that matches serves the access, or all matches are dropped. */
 PART uint64_t use(uint8_t *image, uint8_t *answer, uint8_t *memory, size_t memory_len, uint64_t kind, uint64_t address,
-                  const uint8_t *slot, unsigned length)
+                  const uint8_t *slot, unsigned length, unsigned need)
 {
     uint64_t data = load(slot + 8), offset = BIT(length) - 1;
-    if (UNLIKELY((~data & needs[kind + 4 * (image[FLAGS_AT] & PASTRULOW_WP)]) != 0))
+    if (UNLIKELY((~data & need) != 0))
         return drop_and_walk(image, answer, memory, memory_len, kind, address);
     return answer_words(answer, PASTRULOW_ADDRESS, (data & (BIT(52) - BIT(length))) | (address & offset), BIT(length), 0);
 }
@@ -155,24 +159,24 @@ APART uint64_t search(uint8_t *image, uint8_t *answer, uint8_t *memory, size_t m
 {
     const uint8_t *slot = find_ours(image, address, 12);
     if (slot != NULL)
-        return use(image, answer, memory, memory_len, kind, address, slot, 12);
+        return use(image, answer, memory, memory_len, kind, address, slot, 12, needed(image)[kind]);
     slot = find_ours(image, address, 21);
     if (slot != NULL)
-        return use(image, answer, memory, memory_len, kind, address, slot, 21);
+        return use(image, answer, memory, memory_len, kind, address, slot, 21, needed(image)[kind]);
     slot = find_ours(image, address, 30);
     if (slot != NULL)
-        return use(image, answer, memory, memory_len, kind, address, slot, 30);
+        return use(image, answer, memory, memory_len, kind, address, slot, 30, needed(image)[kind]);
     return walk_tables(image, answer, memory, memory_len, kind, address);
 }
 
-/* Answers from the first slot of a size that holds the page, if one does and it is this PCID's. */
-#define TRY(length, wanted)                                                                                              \
+/* Answers from the first slot of a size that holds the page, if one does and it is this PCID's, as `ours` says of the slot. */
+#define TRY(length, wanted, ours, need)                                                                                  \
     do {                                                                                                                 \
         const uint8_t *slot = first_with(set_of(image, address, length), wanted, mask);                                  \
-        if (slot != NULL && UNLIKELY(!is_ours(image, load(slot))))                                                       \
+        if (slot != NULL && UNLIKELY(!(ours)))                                                                           \
             return search(image, answer, memory, memory_len, kind, address);                                             \
         if (slot != NULL)                                                                                                \
-            return use(image, answer, memory, memory_len, kind, address, slot, length);                                  \
+            return use(image, answer, memory, memory_len, kind, address, slot, length, need);                            \
     } while (0)
 
 PART const uint8_t *first_with(const uint8_t *set, uint64_t wanted, uint64_t mask)
@@ -189,8 +193,8 @@ APART uint64_t look_for_large(uint8_t *image, uint8_t *answer, uint8_t *memory, 
 {
     uint64_t mask = PAGE_FIELD | HELD;
     PIN(mask);
-    TRY(21, page_of(address, 21) | HELD);
-    TRY(30, page_of(address, 30) | HELD);
+    TRY(21, page_of(address, 21) | HELD, is_ours(image, load(slot)), needed(image)[kind]);
+    TRY(30, page_of(address, 30) | HELD, is_ours(image, load(slot)), needed(image)[kind]);
     return walk_tables(image, answer, memory, memory_len, kind, address);
 }
 
@@ -206,8 +210,59 @@ uint64_t pastrulow_translate(uint8_t *image, size_t image_len, uint8_t *memory, 
                  !(image[FLAGS_AT] & PASTRULOW_PG) || !canonical(address)))
         return translate_oddly(image, answer, memory, memory_len, kind, address);
     PIN(mask);
-    TRY(12, address << 2 | HELD);
+    TRY(12, address << 2 | HELD, is_ours(image, load(slot)), needed(image)[kind]);
     return look_for_large(image, answer, memory, memory_len, kind, address);
+}
+
+/* Every pair is refused for the image. */
+APART void refuse_many(uint8_t *answers, size_t answers_len)
+{
+    for (size_t at = 0; at < answers_len; at += PASTRULOW_ANSWER_BYTES)
+        refuse(answers + at, 2);
+}
+
+/* Every pair is refused or, with paging off, given its address. */
+APART void translate_many_shortly(const uint8_t *image, uint8_t *answers, size_t memory_len, const uint8_t *pairs,
+                                  size_t pairs_len)
+{
+    for (size_t at = 0; at < pairs_len; at += PASTRULOW_PAIR_BYTES)
+        translate_shortly(image, answers + 2 * at, memory_len, load(pairs + at), load(pairs + at + 8));
+}
+
+/* What the kinds need, and what a tag of this PCID has beside the page, are the same for all pairs of a call. */
+PART uint64_t translate_pair(uint8_t *image, uint8_t *answer, uint8_t *memory, size_t memory_len, uint64_t kind,
+                             uint64_t address, const uint8_t *need, uint64_t own)
+{
+    uint64_t mask = PAGE_FIELD | HELD, small = (address & ~UINT64_C(4095)) << 2 | own;
+    uint64_t large = page_of(address, 21) | own, largest = page_of(address, 30) | own;
+    if (UNLIKELY(kind > 5 || !canonical(address)))
+        return translate_shortly(image, answer, memory_len, kind, address);
+    TRY(12, small, is_ours_by(load(slot) ^ small), need[kind]);
+    TRY(21, large, is_ours_by(load(slot) ^ large), need[kind]);
+    TRY(30, largest, is_ours_by(load(slot) ^ largest), need[kind]);
+    return walk_tables(image, answer, memory, memory_len, kind, address);
+}
+
+/* No translation makes an image unfit, or turns paging off: both are asked once. */
+uint64_t pastrulow_translate_many(uint8_t *image, size_t image_len, uint8_t *memory, size_t memory_len, const uint8_t *pairs,
+                                  size_t pairs_len, uint8_t *answers, size_t answers_len)
+{
+    if (UNLIKELY(pairs_len % PASTRULOW_PAIR_BYTES != 0 || pairs_len > PASTRULOW_PAIR_BYTES * PASTRULOW_PAIRS_MAX ||
+                 answers_len != 2 * pairs_len))
+        return PASTRULOW_REFUSED_PAIRS;
+    if (UNLIKELY(image_len != PASTRULOW_IMAGE_BYTES || !image_fits(image))) {
+        refuse_many(answers, answers_len);
+        return 0;
+    }
+    if (UNLIKELY(memory_len % PASTRULOW_PAGE_BYTES != 0 || !(image[FLAGS_AT] & PASTRULOW_PG))) {
+        translate_many_shortly(image, answers, memory_len, pairs, pairs_len);
+        return 0;
+    }
+    const uint8_t *need = needed(image);
+    uint64_t own = current_pcid(image) << 2 | HELD;
+    for (size_t at = 0; at < pairs_len; at += PASTRULOW_PAIR_BYTES)
+        translate_pair(image, answers + 2 * at, memory, memory_len, load(pairs + at), load(pairs + at + 8), need, own);
+    return 0;
 }
 
 uint64_t pastrulow_start(uint8_t *image, size_t image_len, uint64_t width, uint8_t *answer, size_t answer_len)

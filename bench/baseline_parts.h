@@ -25,6 +25,12 @@ static const uint8_t needs[16] = {
     0, WRITABLE | DIRTY, EXECUTABLE, USER, USER | WRITABLE | DIRTY, USER | EXECUTABLE, 0, 0,
 };
 
+/* The half that is in force, by kind. */
+PART const uint8_t *needed(const uint8_t *image)
+{
+    return needs + 4 * (image[FLAGS_AT] & PASTRULOW_WP);
+}
+
 PART uint64_t answer_words(uint8_t *answer, uint64_t kind, uint64_t value, uint64_t size, uint64_t read)
 {
     store(answer, kind);
@@ -105,6 +111,12 @@ PART bool is_ours(const uint8_t *image, uint64_t tag)
     if (image[FLAGS_AT] & PASTRULOW_PCIDE)
         tag ^= load(image + CR3_AT) << 2;
     return (tag & PCID_FIELD) == 0;
+}
+
+/* The same by the bits in which its tag differs from one of the current PCID that is not global. */
+PART bool is_ours_by(uint64_t difference)
+{
+    return LIKELY((difference & PCID_FIELD) == 0) || (difference & GLOBAL) != 0;
 }
 
 /* Keeps a constant in a register. */

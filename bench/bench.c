@@ -2,8 +2,10 @@
  * One operation, many times: bench OPERATION TIMES call|empty
  *
  * Linked once with the archive and once with the plain C. With "empty" the loop is the same, but the call goes to a function
- * that returns at once; the difference in instructions is the operation's own. "bench" alone lists the operations.
- * Before the loop the operation is made once, and its record, or of the journal its counts, held to what is expected.
+ * that returns at once; the difference in instructions is the operation's own. "bench" alone lists the operations, each after
+ * the number of its pairs, which is 0 unless it is a batch.
+ * Before the loop the operation is made once, and its record, of a batch the last one, or of the journal its counts, held to
+ * what is expected.
  */
 #include <inttypes.h>
 #include <stdbool.h>
@@ -18,12 +20,15 @@ enum { GUEST_BYTES = 24 * 1024, FLAGS = 23, ROOT = 0x1000, CODE = 4 };
 static _Alignas(64) uint8_t images[PASTRULOW_IMAGE_BYTES + 64], kept[PASTRULOW_IMAGE_BYTES];
 static _Alignas(64) uint8_t memory[GUEST_BYTES], tables[GUEST_BYTES];
 static _Alignas(64) uint8_t record[PASTRULOW_ANSWER_BYTES];
+static _Alignas(64) uint8_t pairs[PASTRULOW_PAIRS_MAX * PASTRULOW_PAIR_BYTES];
+static _Alignas(64) uint8_t records[PASTRULOW_PAIRS_MAX * PASTRULOW_ANSWER_BYTES];
 static _Alignas(64) uint8_t journal[PASTRULOW_JOURNAL_BYTES], kept_journal[PASTRULOW_JOURNAL_BYTES];
 static uint8_t *image = images;
 
 struct door {
     uint64_t (*start)(uint8_t *, size_t, uint64_t, uint8_t *, size_t);
     uint64_t (*translate)(uint8_t *, size_t, uint8_t *, size_t, uint64_t, uint64_t, uint8_t *, size_t);
+    uint64_t (*translate_many)(uint8_t *, size_t, uint8_t *, size_t, const uint8_t *, size_t, uint8_t *, size_t);
     uint64_t (*invlpg)(uint8_t *, size_t, uint64_t, uint8_t *, size_t);
     uint64_t (*invpcid)(uint8_t *, size_t, uint64_t, uint64_t, uint64_t, uint8_t *, size_t);
     uint64_t (*write_cr3)(uint8_t *, size_t, uint64_t, uint8_t *, size_t);
@@ -32,8 +37,9 @@ struct door {
     uint64_t (*report)(uint8_t *, size_t, uint64_t, uint64_t, uint64_t);
 };
 
-static const struct door full = {pastrulow_start,     pastrulow_translate,  pastrulow_invlpg,        pastrulow_invpcid,
-                                 pastrulow_write_cr3, pastrulow_write_mode, pastrulow_journal_clear, pastrulow_journal_report};
+static const struct door full = {pastrulow_start,      pastrulow_translate,     pastrulow_translate_many,
+                                 pastrulow_invlpg,     pastrulow_invpcid,       pastrulow_write_cr3,
+                                 pastrulow_write_mode, pastrulow_journal_clear, pastrulow_journal_report};
 
 /* Calls that do nothing but return: two instructions each. */
 static uint64_t no_start(uint8_t *i, size_t il, uint64_t w, uint8_t *a, size_t al)
@@ -44,6 +50,11 @@ static uint64_t no_start(uint8_t *i, size_t il, uint64_t w, uint8_t *a, size_t a
 static uint64_t no_translate(uint8_t *i, size_t il, uint8_t *m, size_t ml, uint64_t k, uint64_t v, uint8_t *a, size_t al)
 {
     return (void)i, (void)il, (void)m, (void)ml, (void)k, (void)v, (void)a, (void)al, 0;
+}
+
+static uint64_t no_many(uint8_t *i, size_t il, uint8_t *m, size_t ml, const uint8_t *p, size_t pl, uint8_t *a, size_t al)
+{
+    return (void)i, (void)il, (void)m, (void)ml, (void)p, (void)pl, (void)a, (void)al, 0;
 }
 
 static uint64_t no_invpcid(uint8_t *i, size_t il, uint64_t t, uint64_t p, uint64_t v, uint8_t *a, size_t al)
@@ -61,9 +72,10 @@ static uint64_t no_report(uint8_t *j, size_t jl, uint64_t v, uint64_t c, uint64_
     return (void)j, (void)jl, (void)v, (void)c, (void)r, 0;
 }
 
-static const struct door empty = {no_start, no_translate, no_start, no_invpcid, no_start, no_start, no_clear, no_report};
+static const struct door empty = {no_start, no_translate, no_many,  no_start, no_invpcid,
+                                  no_start, no_start,     no_clear, no_report};
 
-enum name { START, TRANSLATE, INVLPG, INVPCID, WRITE_CR3, WRITE_MODE, CLEAR, REPORT };
+enum name { START, TRANSLATE, TRANSLATE_MANY, INVLPG, INVPCID, WRITE_CR3, WRITE_MODE, CLEAR, REPORT };
 
 /*
  * What the buffer holds before the call: nothing; the page of 0x123, 0x212345 or 0x40000010; a page in each of the 100 slots,
@@ -79,7 +91,7 @@ enum restored { NONE, IMAGE, IMAGE_AND_TABLES, JOURNAL };
 struct operation {
     const char *title;
     enum name name;
-    uint64_t numbers[3];
+    uint64_t numbers[3]; /* of a batch: its pairs, the first address, how far it is from each address to the next */
     enum held held;
     enum restored restored;
     unsigned offset;      /* of the image from an alignment of 64 */
@@ -100,6 +112,12 @@ static const struct operation operations[] = {
     {"miss, 4 KiB, all held: a victim", TRANSLATE, {0, 0x123, 0}, FULL_OF_OTHERS, IMAGE, 0, {0, 0x5123, 4096, 4}},
     {"miss, 2 MiB: 3 levels and fill", TRANSLATE, {0, 0x212345, 0}, NOTHING, IMAGE, 0, {0, 0x612345, 2097152, 3}},
     {"fault at level 4", TRANSLATE, {0, FAR_ADDRESS, 0}, NOTHING, NONE, 0, {1, 0, 0, 1}},
+    {"many: 1 hit, 4 KiB", TRANSLATE_MANY, {1, 0x123, 0}, PAGE_4K, NONE, 0, {0, 0x5123, 4096, 0}},
+    {"many: 8 hits, 4 KiB", TRANSLATE_MANY, {8, 0x123, 0}, PAGE_4K, NONE, 0, {0, 0x5123, 4096, 0}},
+    {"many: 64 hits, 4 KiB", TRANSLATE_MANY, {64, 0x123, 0}, PAGE_4K, NONE, 0, {0, 0x5123, 4096, 0}},
+    {"many: 64 hits, 2 MiB", TRANSLATE_MANY, {64, 0x212345, 0}, PAGE_2M, NONE, 0, {0, 0x612345, 2097152, 0}},
+    {"many: 64 hits, 1 GiB", TRANSLATE_MANY, {64, 0x40000010, 0}, PAGE_1G, NONE, 0, {0, 0x40000010, 1073741824, 0}},
+    {"many: 64 misses, 4 KiB", TRANSLATE_MANY, {64, 0x123, 0x1000}, NOTHING, IMAGE, 0, {0, 0x5123, 4096, 4}},
     {"INVLPG of a page held", INVLPG, {0x123, 0, 0}, PAGE_4K, IMAGE, 0, {3, 0, 0, 0}},
     {"CR3 write, buffer empty", WRITE_CR3, {ROOT, 0, 0}, NOTHING, NONE, 0, {3, 0, 0, 0}},
     {"CR3 write, all held and dropped", WRITE_CR3, {ROOT, 0, 0}, FULL, IMAGE, 0, {3, 0, 0, 0}},
@@ -129,6 +147,9 @@ static uint64_t make(const struct door *door, const struct operation *operation)
         return door->start(image, image_len, n[0], record, sizeof record);
     case TRANSLATE:
         return door->translate(image, image_len, memory, sizeof memory, n[0], n[1], record, sizeof record);
+    case TRANSLATE_MANY:
+        return door->translate_many(image, image_len, memory, sizeof memory, pairs, n[0] * PASTRULOW_PAIR_BYTES, records,
+                                    n[0] * PASTRULOW_ANSWER_BYTES);
     case INVLPG:
         return door->invlpg(image, image_len, n[0], record, sizeof record);
     case INVPCID:
@@ -144,10 +165,15 @@ static uint64_t make(const struct door *door, const struct operation *operation)
     }
 }
 
-static void put_word(uint8_t *bytes, uint64_t place, uint64_t word)
+static uint64_t pairs_of(const struct operation *operation)
 {
-    for (unsigned i = 0; i < 8; i++)
-        bytes[place + i] = (uint8_t)(word >> 8 * i);
+    return operation->name == TRANSLATE_MANY ? operation->numbers[0] : 0;
+}
+
+static void put_pairs(const struct operation *operation)
+{
+    for (uint64_t i = 0; i < pairs_of(operation); i++)
+        pastrulow_put_pair(pairs, i, PASTRULOW_READ, operation->numbers[1] + i * operation->numbers[2]);
 }
 
 /* All slots of one size. A page's number is its set's, and a round of the sets more for each way that it is before the last. */
@@ -155,8 +181,8 @@ static void hold_pages(unsigned first, unsigned sets, uint64_t base, unsigned ro
 {
     for (unsigned slot = 0; slot < 4 * sets; slot++) {
         uint64_t number = (uint64_t)sets * (3 - slot % 4 + round) + slot / 4, place = 32 + 16 * (4 * first + slot);
-        put_word(image, place, 1 | (global ? 2 : 0) | number << 14);
-        put_word(image, place + 8, base | 0xf);
+        pastrulow_put_word(image + place, 1 | (global ? 2 : 0) | number << 14);
+        pastrulow_put_word(image + place + 8, base | 0xf);
     }
 }
 
@@ -186,18 +212,25 @@ static void hold(enum held held)
     hold_pages(24, 1, 0x40000000, round, held == FULL_OF_GLOBAL);
 }
 
-/* The part of document 01's trial guest that the operations use, with every accessed bit set or with none. */
+/* The part of document 01's trial guest that the operations use, with every accessed bit set or with none; its first page 64
+   times, so that as many pairs can miss. */
+static void put_tables(uint64_t accessed)
+{
+    pastrulow_put_word(memory + 0x1000, 0x2007 | accessed);
+    pastrulow_put_word(memory + 0x2000, 0x3007 | accessed);
+    pastrulow_put_word(memory + 0x2008, 0x40000083 | accessed);
+    pastrulow_put_word(memory + 0x3000, 0x4007 | accessed);
+    pastrulow_put_word(memory + 0x3008, 0x600087 | accessed);
+    for (unsigned i = 0; i < PASTRULOW_PAIRS_MAX; i++)
+        pastrulow_put_word(memory + 0x4000 + 8 * i, 0x5003 | accessed);
+}
+
 static void set_up(const struct operation *operation)
 {
     size_t image_len = PASTRULOW_IMAGE_BYTES;
-    uint64_t accessed = operation->restored == IMAGE_AND_TABLES ? 0 : 0x20;
     image = images + operation->offset;
-    put_word(memory, 0x1000, 0x2007 | accessed);
-    put_word(memory, 0x2000, 0x3007 | accessed);
-    put_word(memory, 0x2008, 0x40000083 | accessed);
-    put_word(memory, 0x3000, 0x4007 | accessed);
-    put_word(memory, 0x3008, 0x600087 | accessed);
-    put_word(memory, 0x4000, 0x5003 | accessed);
+    put_tables(operation->restored == IMAGE_AND_TABLES ? 0 : 0x20);
+    put_pairs(operation);
     pastrulow_start(image, image_len, 40, record, sizeof record);
     pastrulow_write_cr3(image, image_len, ROOT, record, sizeof record);
     pastrulow_write_mode(image, image_len, FLAGS, record, sizeof record);
@@ -217,9 +250,9 @@ static void restore(enum restored restored)
         memcpy(journal, kept_journal, sizeof journal);
 }
 
-static bool record_is(const uint64_t *expected)
+static bool record_is(const uint8_t *bytes, const uint64_t *expected)
 {
-    struct pastrulow_answer answer = pastrulow_read_answer(record);
+    struct pastrulow_answer answer = pastrulow_read_answer(bytes);
     return answer.kind == expected[0] && answer.value == expected[1] && answer.size == expected[2] &&
            answer.read == expected[3];
 }
@@ -236,7 +269,9 @@ static bool as_expected(const struct operation *operation)
 {
     uint64_t refusal = make(&full, operation);
     bool of_journal = operation->name >= CLEAR;
-    bool right = of_journal ? journal_is(operation->expected) : record_is(operation->expected);
+    uint64_t count = pairs_of(operation);
+    const uint8_t *last = count == 0 ? record : records + (count - 1) * PASTRULOW_ANSWER_BYTES;
+    bool right = of_journal ? journal_is(operation->expected) : record_is(last, operation->expected);
     restore(of_journal ? JOURNAL : IMAGE);
     return refusal == 0 && right;
 }
@@ -245,7 +280,7 @@ int main(int count, char **arguments)
 {
     if (count != 4) {
         for (unsigned i = 0; i < OPERATIONS; i++)
-            printf("%s\n", operations[i].title);
+            printf("%" PRIu64 " %s\n", pairs_of(&operations[i]), operations[i].title);
         return 0;
     }
     const struct operation *operation = &operations[strtoul(arguments[1], NULL, 10) % OPERATIONS];

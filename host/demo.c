@@ -1,6 +1,7 @@
 /*
- * An example host: the trial guest of document 01, a few accesses, an INVLPG, a CR3 switch and a saved state with PCIDs; and a
- * journal of the faults. It may be copied; it compiles as C11 and as C++17. Link it with libpastrulow.a.
+ * An example host: the trial guest of document 01, a few accesses, an INVLPG, a CR3 switch, a saved state with PCIDs and many
+ * addresses in one call; and a journal of the faults. It may be copied; it compiles as C11 and as C++17. Link it with
+ * libpastrulow.a.
  */
 #include <inttypes.h>
 #include <stdio.h>
@@ -22,8 +23,7 @@ static uint8_t journal[PASTRULOW_JOURNAL_BYTES];
 
 static void store(uint64_t physical, uint64_t word)
 {
-    for (int i = 0; i < 8; i++)
-        memory[physical + i] = (uint8_t)(word >> 8 * i);
+    pastrulow_put_word(memory + physical, word);
 }
 
 /* Four levels of tables at 0x1000, 0x2000, 0x3000, 0x4000; data pages at 0x5000 and beyond guest memory. */
@@ -112,9 +112,8 @@ static const char *cause(uint64_t code)
     return code & PASTRULOW_CODE_RESERVED ? "reserved bit" : "protection";
 }
 
-static void access_memory(uint64_t kind, uint64_t address)
+static void show_answer(uint64_t kind, uint64_t address, struct pastrulow_answer answer)
 {
-    struct pastrulow_answer answer = translate(kind, address);
     char result[64];
     if (answer.kind == PASTRULOW_ADDRESS)
         snprintf(result, sizeof result, "0x%" PRIx64, answer.value);
@@ -124,6 +123,11 @@ static void access_memory(uint64_t kind, uint64_t address)
         snprintf(result, sizeof result, "refusal %" PRIu64, answer.value);
     printf("0x%016" PRIx64 "  %-10s  %-24s  %10" PRIu64 "  %" PRIu64 "\n", address, names[kind], result, answer.size,
            answer.read);
+}
+
+static void access_memory(uint64_t kind, uint64_t address)
+{
+    show_answer(kind, address, translate(kind, address));
 }
 
 /* A guest that makes one access again and again, as if it waited for the page. */
@@ -187,6 +191,29 @@ static void show_saved_state(void)
     access_memory(PASTRULOW_READ, 0x212345);
 }
 
+/* What a disassembler asks for: two places in one page, the first of them again, a page that it may not fetch from, an address
+   that is not canonical, and a page that is held. */
+static const uint64_t asked[] = {0x1000, 0x1ffc, 0x1000, 0x2000, UINT64_C(0x800000000000), 0x212345};
+enum { ASKED = sizeof asked / sizeof *asked };
+static uint8_t pairs[ASKED * PASTRULOW_PAIR_BYTES], answers[ASKED * PASTRULOW_ANSWER_BYTES];
+
+static void put_pairs(void)
+{
+    for (size_t i = 0; i < ASKED; i++)
+        pastrulow_put_pair(pairs, i, PASTRULOW_FETCH, asked[i]);
+}
+
+/* Neither the fault nor the refusal among them ends the call. The guest has not met this fault, so the journal is not told. */
+static void show_many(void)
+{
+    printf("a disassembler asks for %u addresses in one call\n", (unsigned)ASKED);
+    put_pairs();
+    must(pastrulow_translate_many(image, sizeof image, memory, sizeof memory, pairs, sizeof pairs, answers, sizeof answers),
+         "translate many");
+    for (size_t i = 0; i < ASKED; i++)
+        show_answer(PASTRULOW_FETCH, asked[i], pastrulow_read_answer(answers + PASTRULOW_ANSWER_BYTES * i));
+}
+
 static void show_record(size_t number)
 {
     struct pastrulow_journal_record fault = pastrulow_read_journal_record(journal, number);
@@ -217,6 +244,7 @@ int main(void)
     show_invlpg();
     show_cr3_switch();
     show_saved_state();
+    show_many();
     show_journal();
     return 0;
 }

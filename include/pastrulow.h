@@ -1,22 +1,23 @@
 /*
  * pastrulow: x86-64 address translation with a translation buffer, and a journal of page faults, for a host in C or C++.
  *
- * The translator's six calls: the host keeps the whole state in an image of 2,048 bytes and lends it to each of them. Each
- * writes an answer record of 32 bytes and returns the refusal number, or 0.
+ * The translator's seven calls: the host keeps the whole state in an image of 2,048 bytes and lends it to each of them. Six of
+ * them write an answer record of 32 bytes and return the refusal number, or 0. The seventh, translate_many, writes a record for
+ * each of many addresses, and returns the refusal number of the whole call, which is 10, or 0.
  * The journal's two calls: the host lends a journal of 2,624 bytes and nothing else. They write no answer record, and return
  * the refusal number, which is 9, or 0. A host that wants no journal need not have one.
  * The library keeps nothing between calls.
  *
  * What a host owes:
- *   - each pointer is good for as many bytes as the length beside it says, to read and to write; a pointer may be NULL if its
- *     length is 0; no alignment is asked for;
- *   - the slices of one call (image, memory, answer) do not overlap; nor does a journal overlap what another call is lent
- *     at the same time;
- *   - an image, an answer and a journal are each lent to one call at a time, and guest memory to one translate at a time,
- *     which reads table entries there and sets their accessed and dirty bits by plain loads and stores. Where several
- *     processors share guest memory, each with its own image, the host needs a lock of its own around translate, and around
- *     other writes to tables; images that share no guest memory need no care. Where they share a journal, it needs one around
- *     the journal's calls;
+ *   - each pointer is good for as many bytes as the length beside it says, to read and, pairs aside, to write; a pointer may be
+ *     NULL if its length is 0; no alignment is asked for;
+ *   - the slices of one call (image, memory, pairs, answer or answers) do not overlap; nor does a journal overlap what another
+ *     call is lent at the same time;
+ *   - an image, an answer, the answers of many and a journal are each lent to one call at a time, and guest memory to one
+ *     translate or translate_many at a time, which reads table entries there and sets their accessed and dirty bits by plain
+ *     loads and stores. Where several processors share guest memory, each with its own image, the host needs a lock of its own
+ *     around these two, and around other writes to tables; images that share no guest memory need no care. Where they share a
+ *     journal, it needs one around the journal's calls;
  *   - lengths are in bytes. A wrong length is no error of the host's: the call refuses it.
  *
  * Between calls the image is best left alone. An image made or changed by hand is safe to lend, and each call follows the same
@@ -48,6 +49,10 @@ uint64_t pastrulow_version(void);
 #define PASTRULOW_IMAGE_BYTES 2048
 #define PASTRULOW_ANSWER_BYTES 32
 #define PASTRULOW_PAGE_BYTES 4096
+#define PASTRULOW_PAIR_BYTES 16
+
+/* The pairs that translate_many takes, at most. */
+#define PASTRULOW_PAIRS_MAX 64
 
 /* The physical width that start takes, in bits. */
 #define PASTRULOW_WIDTH_MIN 36
@@ -92,13 +97,14 @@ uint64_t pastrulow_version(void);
 #define PASTRULOW_CODE_FETCH UINT64_C(16)    /* the access was a fetch, with NXE on; with NXE off a fetch has a read's code */
 
 /*
- * Refusals of the translator's calls; the journal's is below. If several apply, the lowest is given. Refusal 1 writes nothing;
- * the others write only the record, and neither the image nor guest memory changes.
+ * Refusals of the translator's calls; the journal's is below. If several apply, the lowest is given, but 10 before all others.
+ * Refusals 1 and 10 write nothing; the others write only the record, and neither the image nor guest memory changes. Those of
+ * translate are in translate_many each pair's own, and stand in its record alone.
  */
-#define PASTRULOW_REFUSED_ANSWER UINT64_C(1)  /* all six: the answer is not 32 bytes long */
-#define PASTRULOW_REFUSED_IMAGE UINT64_C(2)   /* all six: the image is not 2,048 bytes long; start: the width is not 36 to
-                                                 52; the others: the image holds such a width, a flag that does not exist, a
-                                                 bit after the victim numbers, or a byte other than 0 after the slots */
+#define PASTRULOW_REFUSED_ANSWER UINT64_C(1)  /* all but translate_many: the answer is not 32 bytes long */
+#define PASTRULOW_REFUSED_IMAGE UINT64_C(2)   /* all: the image is not 2,048 bytes long; start: the width is not 36 to 52; the
+                                                 others: the image holds such a width, a flag that does not exist, a bit after
+                                                 the victim numbers, or a byte other than 0 after the slots */
 #define PASTRULOW_REFUSED_KIND UINT64_C(3)    /* translate: no such access kind */
 #define PASTRULOW_REFUSED_MEMORY UINT64_C(4)  /* translate: guest memory is not whole pages */
 #define PASTRULOW_REFUSED_ADDRESS UINT64_C(5) /* translate: not canonical with paging on; above 32 bits with paging off */
@@ -107,6 +113,8 @@ uint64_t pastrulow_version(void);
                                                  bits of CR3 are not 0 */
 #define PASTRULOW_REFUSED_INVPCID UINT64_C(8) /* INVPCID: no such type; PCID above 4095; type 0 and the address not canonical;
                                                  type 0 or 1, PCIDE off and the PCID not 0 */
+#define PASTRULOW_REFUSED_PAIRS UINT64_C(10)  /* translate_many: the pairs' length is no multiple of 16, or they are more
+                                                 than 64; or the answers' length is not 32 a pair */
 
 /* Makes a new image for a machine of this physical width: paging off, buffer empty. What the image held before is not read. */
 uint64_t pastrulow_start(uint8_t *image, size_t image_len, uint64_t width, uint8_t *answer, size_t answer_len);
@@ -114,6 +122,17 @@ uint64_t pastrulow_start(uint8_t *image, size_t image_len, uint64_t width, uint8
 /* Translates an address for one access, from the buffer or by a walk that sets accessed and dirty bits in guest memory. */
 uint64_t pastrulow_translate(uint8_t *image, size_t image_len, uint8_t *memory, size_t memory_len, uint64_t kind,
                              uint64_t address, uint8_t *answer, size_t answer_len);
+
+/*
+ * Translates up to 64 addresses in one call. The pairs, which pastrulow_put_pair writes, are judged one after the other:
+ * records, image and guest memory are those of as many calls of translate in that order, each lent what the one before left.
+ * The answers are a record of 32 bytes a pair, in the pairs' order, which a host reads one by one:
+ * pastrulow_read_answer(answers + PASTRULOW_ANSWER_BYTES * i).
+ * The call's own number is 10, and then nothing is written, or 0, whatever the records say: refusals from 2 on stand in the
+ * records, and the pairs after a refused one are judged all the same. No pairs and no answers are no refusal.
+ */
+uint64_t pastrulow_translate_many(uint8_t *image, size_t image_len, uint8_t *memory, size_t memory_len, const uint8_t *pairs,
+                                  size_t pairs_len, uint8_t *answers, size_t answers_len);
 
 /* The INVLPG instruction: drops what the buffer holds for this address under the current PCID, global pages too; of an address
    that is not canonical nothing, which is no refusal. */
@@ -165,6 +184,25 @@ static inline uint64_t pastrulow_word(const uint8_t *bytes)
         word = word << 8 | bytes[i];
 #endif
     return word;
+}
+
+/* Writes such a word. */
+static inline void pastrulow_put_word(uint8_t *bytes, uint64_t word)
+{
+#if PASTRULOW_LITTLE_ENDIAN
+    memcpy(bytes, &word, sizeof word);
+#else
+    for (int i = 0; i < 8; i++)
+        bytes[i] = (uint8_t)(word >> 8 * i);
+#endif
+}
+
+/* Writes one of the pairs that translate_many is lent, numbered from 0: two words, the access kind and the address. */
+static inline void pastrulow_put_pair(uint8_t *pairs, size_t number, uint64_t kind, uint64_t address)
+{
+    uint8_t *pair = pairs + PASTRULOW_PAIR_BYTES * number;
+    pastrulow_put_word(pair, kind);
+    pastrulow_put_word(pair + 8, address);
 }
 
 /* Reads a record of 32 bytes that a call has written. */

@@ -2,6 +2,7 @@
 
 #include <inttypes.h>
 #include <stdio.h>
+#include <string.h>
 
 #include "model.h"
 #include "pastrulow.h"
@@ -9,8 +10,10 @@
 static enum call_name random_name(struct random *random)
 {
     uint64_t which = random_below(random, 200);
-    if (which < 150)
+    if (which < 144)
         return TRANSLATE;
+    if (which < 150)
+        return TRANSLATE_MANY;
     if (which < 164)
         return INVLPG;
     if (which < 179)
@@ -35,23 +38,62 @@ static uint64_t random_flags(struct random *random, const struct guest *guest)
     return UINT64_C(1) << random_below(random, 64);
 }
 
+static size_t wrong_length(struct random *random, size_t right)
+{
+    static const int offsets[] = {-32, -16, -8, -1, 1, 8, 16, 32, LENT_GUARD};
+    if (right > 0 && random_percent(random, 20))
+        return random_below(random, right);
+    int offset = offsets[random_below(random, sizeof offsets / sizeof *offsets)];
+    return offset < 0 && right < (size_t)-offset ? right + 1 : right + (size_t)offset;
+}
+
+static uint64_t odd_word(struct random *random)
+{
+    return random_percent(random, 50) ? random_word(random) : random_below(random, 70);
+}
+
+static uint64_t random_kind(struct random *random)
+{
+    return random_percent(random, 3) ? odd_word(random) : random_below(random, 6);
+}
+
+/* Mostly few pairs, and often as many as are a limit. The answers are for each whole pair, or twice as long as the pairs, which
+   is the same unless these are ragged. */
+static void random_pairs(struct random *random, const struct guest *guest, struct call *call)
+{
+    static const size_t limits[] = {0, 1, 2, 63, 64, 65};
+    size_t count = random_below(random, random_percent(random, 20) ? 65 : 16);
+    if (random_percent(random, 40))
+        count = limits[random_below(random, sizeof limits / sizeof *limits)];
+    for (size_t i = 0; i < LENT_MANY; i++) {
+        uint64_t kind = random_kind(random);
+        pastrulow_put_pair(call->pairs, i, kind, guest_address(random, guest));
+    }
+    call->pairs_len = LENT_PAIR * count;
+    if (random_percent(random, 8))
+        call->pairs_len = wrong_length(random, call->pairs_len);
+    call->answer_len = random_percent(random, 50) ? LENT_ANSWER * (call->pairs_len / LENT_PAIR) : 2 * call->pairs_len;
+}
+
 static void random_numbers(struct random *random, const struct guest *guest, struct call *call)
 {
-    bool odd = random_percent(random, 3);
-    uint64_t word = random_percent(random, 50) ? random_word(random) : random_below(random, 70);
     switch (call->name) {
     case START:
-        call->numbers[0] = random_percent(random, 40) ? word : guest->width;
+        call->numbers[0] = random_percent(random, 40) ? odd_word(random) : guest->width;
         break;
     case TRANSLATE:
-        call->numbers[0] = odd ? word : random_below(random, 6);
+        call->numbers[0] = random_kind(random);
         call->numbers[1] = guest_address(random, guest);
+        break;
+    case TRANSLATE_MANY:
+        random_pairs(random, guest, call);
         break;
     case INVLPG:
         call->numbers[0] = guest_address(random, guest);
         break;
     case INVPCID:
-        call->numbers[0] = odd ? word : random_below(random, random_percent(random, 60) ? 2 : 4);
+        call->numbers[0] =
+            random_percent(random, 3) ? odd_word(random) : random_below(random, random_percent(random, 60) ? 2 : 4);
         call->numbers[1] = random_percent(random, 3) ? random_word(random) >> random_below(random, 64)
                                                      : guest->pcids[random_below(random, GUEST_PCIDS)];
         call->numbers[2] = guest_address(random, guest);
@@ -65,14 +107,6 @@ static void random_numbers(struct random *random, const struct guest *guest, str
     }
 }
 
-static size_t wrong_length(struct random *random, size_t right)
-{
-    static const int offsets[] = {-8, -1, 1, 8, 16, LENT_GUARD};
-    if (random_percent(random, 20))
-        return random_below(random, right);
-    return right + (size_t)offsets[random_below(random, sizeof offsets / sizeof *offsets)];
-}
-
 struct call call_make(struct random *random, const struct guest *guest)
 {
     struct call call = {.name = random_name(random), .image_len = LENT_IMAGE, .answer_len = LENT_ANSWER};
@@ -81,11 +115,11 @@ struct call call_make(struct random *random, const struct guest *guest)
     if (random_percent(random, 5))
         call.memory_len = 4096 * random_below(random, GUEST_PAGES_MAX + 1);
     if (random_percent(random, 1))
-        call.memory_len = wrong_length(random, call.memory_len == 0 ? LENT_MEMORY : call.memory_len);
+        call.memory_len = wrong_length(random, call.memory_len);
     if (random_percent(random, 1))
         call.image_len = wrong_length(random, LENT_IMAGE);
-    if (random_percent(random, 1))
-        call.answer_len = wrong_length(random, LENT_ANSWER);
+    if (random_percent(random, call.name == TRANSLATE_MANY ? 8 : 1))
+        call.answer_len = wrong_length(random, call.answer_len);
     return call;
 }
 
@@ -97,17 +131,26 @@ struct call call_begin(const struct guest *guest, unsigned step)
     return call;
 }
 
+void call_lend(const struct call *call, struct lent *lent)
+{
+    if (call->name == TRANSLATE_MANY)
+        memcpy(lent->bytes + lent->pairs, call->pairs, LENT_PAIRS);
+}
+
 uint64_t call_door(const struct call *call, struct lent *lent)
 {
     uint8_t *image = lent->bytes + lent->image;
     uint8_t *memory = lent->bytes + lent->memory;
-    uint8_t *answer = lent->bytes + lent->answer;
+    uint8_t *answer = lent->bytes + lent->answers;
     const uint64_t *n = call->numbers;
     switch (call->name) {
     case START:
         return pastrulow_start(image, call->image_len, n[0], answer, call->answer_len);
     case TRANSLATE:
         return pastrulow_translate(image, call->image_len, memory, call->memory_len, n[0], n[1], answer, call->answer_len);
+    case TRANSLATE_MANY:
+        return pastrulow_translate_many(image, call->image_len, memory, call->memory_len, lent->bytes + lent->pairs,
+                                        call->pairs_len, answer, call->answer_len);
     case INVLPG:
         return pastrulow_invlpg(image, call->image_len, n[0], answer, call->answer_len);
     case INVPCID:
@@ -123,13 +166,16 @@ uint64_t call_model(const struct call *call, struct lent *lent)
 {
     uint8_t *image = lent->bytes + lent->image;
     uint8_t *memory = lent->bytes + lent->memory;
-    uint8_t *answer = lent->bytes + lent->answer;
+    uint8_t *answer = lent->bytes + lent->answers;
     const uint64_t *n = call->numbers;
     switch (call->name) {
     case START:
         return model_start(image, call->image_len, n[0], answer, call->answer_len);
     case TRANSLATE:
         return model_translate(image, call->image_len, memory, call->memory_len, n[0], n[1], answer, call->answer_len);
+    case TRANSLATE_MANY:
+        return model_translate_many(image, call->image_len, memory, call->memory_len, lent->bytes + lent->pairs,
+                                    call->pairs_len, answer, call->answer_len);
     case INVLPG:
         return model_invlpg(image, call->image_len, n[0], answer, call->answer_len);
     case INVPCID:
@@ -141,10 +187,18 @@ uint64_t call_model(const struct call *call, struct lent *lent)
     }
 }
 
+size_t call_pairs(const struct call *call)
+{
+    return call->pairs_len / LENT_PAIR;
+}
+
 void call_print(const struct call *call)
 {
-    static const char *const names[] = {"start", "translate", "invlpg", "invpcid", "write_cr3", "write_mode"};
-    printf("  call %s 0x%" PRIx64 " 0x%" PRIx64 " 0x%" PRIx64 ", image %zu, memory %zu, answer %zu bytes\n",
+    static const char *const names[] = {"start", "translate", "translate_many", "invlpg", "invpcid", "write_cr3", "write_mode"};
+    printf("  call %s 0x%" PRIx64 " 0x%" PRIx64 " 0x%" PRIx64 ", image %zu, memory %zu, pairs %zu, answer %zu bytes\n",
            names[call->name], call->numbers[0], call->numbers[1], call->numbers[2], call->image_len, call->memory_len,
-           call->answer_len);
+           call->pairs_len, call->answer_len);
+    for (size_t i = 0; i < call_pairs(call); i++)
+        printf("  pair %zu: 0x%" PRIx64 " 0x%" PRIx64 "\n", i, pastrulow_word(call->pairs + LENT_PAIR * i),
+               pastrulow_word(call->pairs + LENT_PAIR * i + 8));
 }

@@ -1,6 +1,6 @@
 /*
- * The translator's calls, the archive against the model of the paper, on random sequences of them: return, record, image and
- * guest memory are compared after each call, and the guard bytes around them.
+ * The translator's calls, the archive against the model of the paper, on random sequences of them: return, records, image,
+ * guest memory and pairs are compared after each call, and the guard bytes around them.
  *
  *     differential [SEED [SEQUENCE [COUNT]]]
  *
@@ -20,9 +20,8 @@
 enum { SEQUENCES = 4200, STEPS = 250, DEFAULT_SEED = 1 };
 
 static struct lent door_side, model_side;
-static unsigned long calls;
-static uint64_t refusal; /* what the last call returned */
-static unsigned begun;   /* of the three calls that a guest begins with, how many are made */
+static unsigned long calls, pairs;
+static unsigned begun; /* of the three calls that a guest begins with, how many are made */
 
 static void put_both_image(unsigned number, uint64_t word)
 {
@@ -36,27 +35,27 @@ static void put_both_memory(uint64_t address, uint64_t word)
     lent_put_memory_word(&model_side, address, word);
 }
 
-static void print_sides(void)
+/* The words of a part that differ. */
+static void print_words(const char *title, size_t part, unsigned words)
 {
-    for (unsigned i = 0; i < 4; i++)
-        printf("  answer word %u: archive 0x%" PRIx64 ", model 0x%" PRIx64 "\n", i,
-               pastrulow_word(door_side.bytes + door_side.answer + 8 * i),
-               pastrulow_word(model_side.bytes + model_side.answer + 8 * i));
-    for (unsigned i = 0; i < 256; i++)
-        if (lent_image_word(&door_side, i) != lent_image_word(&model_side, i))
-            printf("  image word %u: archive 0x%" PRIx64 ", model 0x%" PRIx64 "\n", i, lent_image_word(&door_side, i),
-                   lent_image_word(&model_side, i));
+    for (unsigned i = 0; i < words; i++) {
+        uint64_t door = pastrulow_word(door_side.bytes + part + 8 * i), model = pastrulow_word(model_side.bytes + part + 8 * i);
+        if (door != model)
+            printf("  %s word %u: archive 0x%" PRIx64 ", model 0x%" PRIx64 "\n", title, i, door, model);
+    }
 }
 
 /* Runs one call on both sides and compares everything. */
 static bool agree(const struct call *call)
 {
+    call_lend(call, &model_side);
+    call_lend(call, &door_side);
     uint64_t from_model = call_model(call, &model_side);
     uint64_t from_door = call_door(call, &door_side);
     size_t at = lent_difference(&door_side, &model_side);
     calls++;
-    refusal = from_door;
-    if (call->name == START && refusal == 0)
+    pairs += from_model == 0 ? call_pairs(call) : 0;
+    if (call->name == START && from_door == 0)
         begun = 1;
     if (from_door == from_model && at == LENT_BYTES)
         return true;
@@ -68,7 +67,8 @@ static bool agree(const struct call *call)
         lent_describe(&door_side, at, place, sizeof place);
         printf("  first difference: %s\n", place);
     }
-    print_sides();
+    print_words("answer", door_side.answers, LENT_ANSWERS / 8);
+    print_words("image", door_side.image, LENT_IMAGE / 8);
     return false;
 }
 
@@ -144,7 +144,7 @@ static unsigned damage(struct random *random)
     }
 }
 
-/* One call on a damaged image, which is mended after a refusal. */
+/* One call on a damaged image, which is mended unless start has made a new one. */
 static bool damaged_call(struct random *random, const struct guest *guest)
 {
     uint64_t before[256];
@@ -154,7 +154,7 @@ static bool damaged_call(struct random *random, const struct guest *guest)
     struct call call = call_make(random, guest);
     if (!agree(&call))
         return false;
-    if (refusal != 0)
+    if (begun == 3)
         put_both_image(number, before[number]);
     return true;
 }
@@ -212,7 +212,7 @@ int main(int count, char **arguments)
             return 1;
     bool every_sequence = count <= 2;
     size_t missing = every_sequence ? translator_events_print() : 0;
-    printf("differential: %lu calls agree\n", calls);
+    printf("differential: %lu calls agree, with %lu pairs in batches\n", calls, pairs);
     if (missing > 0)
         printf("differential: %zu kinds of event never happened\n", missing);
     return missing > 0;

@@ -4,7 +4,8 @@
 
 #include <stddef.h>
 
-/* Of the translator. Page sizes are numbered 0 (4 KiB), 1 (2 MiB), 2 (1 GiB) wherever events come in threes. */
+/* Of the translator. Page sizes are numbered 0 (4 KiB), 1 (2 MiB), 2 (1 GiB) wherever events come in threes. A batch is a call
+   of translate_many. */
 #define TRANSLATOR_EVENTS(X)                                                          \
     X(HIT_4K, "hit, 4 KiB page")                                                      \
     X(HIT_2M, "hit, 2 MiB page")                                                      \
@@ -80,6 +81,29 @@
     X(TRANSLATE_4, "translate refused 4")                                             \
     X(TRANSLATE_5_ON, "translate refused 5, paging on")                               \
     X(TRANSLATE_5_OFF, "translate refused 5, paging off")                             \
+    X(BATCH_10_RAGGED, "batch refused 10, pair bytes no multiple of 16")              \
+    X(BATCH_10_PAIRS, "batch refused 10, more than 64 pairs")                         \
+    X(BATCH_10_FEWER, "batch refused 10, too few answer bytes")                       \
+    X(BATCH_10_MORE, "batch refused 10, too many answer bytes")                       \
+    X(BATCH_10_IMAGE, "batch refused 10, the image unfit too")                        \
+    X(BATCH_NONE, "batch of no pairs")                                                \
+    X(BATCH_NONE_IMAGE, "batch of no pairs, the image unfit")                         \
+    X(BATCH_ONE, "batch of one pair")                                                 \
+    X(BATCH_64, "batch of 64 pairs")                                                  \
+    X(PAIR_2, "pair refused 2")                                                       \
+    X(PAIR_3, "pair refused 3")                                                       \
+    X(PAIR_4, "pair refused 4")                                                       \
+    X(PAIR_5, "pair refused 5")                                                       \
+    X(PAIR_AFTER_REFUSED, "pair not refused, the one before refused")                 \
+    X(PAIR_AFTER_FAULT, "pair given an address, the one before a fault")              \
+    X(PAIR_PAGING_OFF, "pair given an address with paging off")                       \
+    X(BATCH_3_AND_4, "batch with pairs refused 3 and 4")                              \
+    X(PAIR_HIT_4K, "pair's hit, 4 KiB slot that an earlier pair filled")              \
+    X(PAIR_HIT_2M, "pair's hit, 2 MiB slot that an earlier pair filled")              \
+    X(PAIR_HIT_1G, "pair's hit, 1 GiB slot that an earlier pair filled")              \
+    X(PAIR_DROPS, "pair drops a slot that an earlier pair filled")                    \
+    X(PAIR_EVICTS, "pair evicts a slot that an earlier pair filled")                  \
+    X(PAIR_READS_MARK, "pair's walk reads a word in which an earlier pair set a bit") \
     X(INVLPG_1, "INVLPG refused 1")                                                   \
     X(INVLPG_2, "INVLPG refused 2")                                                   \
     X(INVLPG_OUTSIDE, "INVLPG done, address not canonical")                           \

@@ -1,6 +1,6 @@
 /*
- * What the header says beside the calls: the version, a record's words, a fault's level, how a saved state is loaded, the root
- * in force, a journal's words.
+ * What the header says beside the calls: the version, a record's words, a pair's words, a fault's level, how a saved state is
+ * loaded, the root in force, a journal's words.
  */
 #include <string.h>
 
@@ -22,6 +22,26 @@ static void read_records(void)
         check("size", answer.size, UINT64_C(0x9897969594939291));
         check("read", answer.read, UINT64_C(0xa09f9e9d9c9b9a99));
     }
+}
+
+/* One pair among bytes that are all 0. */
+static void put_pair(uint8_t *pairs, size_t number)
+{
+    uint8_t expected[PASTRULOW_PAIRS_MAX * PASTRULOW_PAIR_BYTES] = {0};
+    for (unsigned i = 0; i < PASTRULOW_PAIR_BYTES; i++)
+        expected[PASTRULOW_PAIR_BYTES * number + i] = (uint8_t)(0x81 + i);
+    memset(pairs, 0, sizeof expected);
+    pastrulow_put_pair(pairs, number, UINT64_C(0x8887868584838281), UINT64_C(0x908f8e8d8c8b8a89));
+    check("pair", memcmp(pairs, expected, sizeof expected) != 0, 0);
+}
+
+/* Each of 64 pairs, at every distance from an aligned address. */
+static void put_pairs(void)
+{
+    static uint8_t bytes[PASTRULOW_PAIRS_MAX * PASTRULOW_PAIR_BYTES + 8];
+    for (size_t at = 0; at < 8; at++)
+        for (size_t number = 0; number < PASTRULOW_PAIRS_MAX; number++)
+            put_pair(bytes + at, number);
 }
 
 static void load_state(uint64_t width, uint64_t flags, uint64_t cr3)
@@ -150,6 +170,7 @@ int main(void)
 {
     check("version", pastrulow_version(), PASTRULOW_VERSION);
     read_records();
+    put_pairs();
     load_states();
     fault_at_each_level();
     read_roots();

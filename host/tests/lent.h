@@ -1,4 +1,4 @@
-/* What one side of a comparison is lent: image, guest memory and answer, with guard bytes around each. */
+/* What one side of a comparison is lent: image, guest memory, answers and pairs, with guard bytes around each. */
 #ifndef LENT_H
 #define LENT_H
 
@@ -13,12 +13,16 @@ enum {
     LENT_SHIFTS = 16, /* a part may stand at any alignment */
     LENT_IMAGE = 2048,
     LENT_MEMORY = 4096 * GUEST_PAGES_MAX,
+    LENT_MANY = 72, /* pairs and their records: more than a call takes */
     LENT_ANSWER = 32,
-    LENT_BYTES = LENT_IMAGE + LENT_MEMORY + LENT_ANSWER + 4 * (LENT_GUARD + LENT_SHIFTS)
+    LENT_ANSWERS = LENT_ANSWER * LENT_MANY,
+    LENT_PAIR = 16,
+    LENT_PAIRS = LENT_PAIR * LENT_MANY,
+    LENT_BYTES = LENT_IMAGE + LENT_MEMORY + LENT_ANSWERS + LENT_PAIRS + 5 * (LENT_GUARD + LENT_SHIFTS)
 };
 
 struct lent {
-    size_t image, memory, answer; /* where each part stands */
+    size_t image, memory, answers, pairs; /* where each part stands; a single answer is the first of the answers */
     uint8_t bytes[LENT_BYTES];
 };
 

@@ -55,8 +55,7 @@ uint64_t machine_word(const struct machine *machine, uint64_t address)
 
 void machine_put_word(struct machine *machine, uint64_t address, uint64_t word)
 {
-    for (unsigned i = 0; i < 8; i++)
-        machine->memory[address + i] = (uint8_t)(word >> 8 * i);
+    pastrulow_put_word(machine->memory + address, word);
 }
 
 bool same_answer(struct pastrulow_answer one, struct pastrulow_answer other)

@@ -1,4 +1,5 @@
-/* A machine as a host has it: an image and guest memory; each call of the translator through the archive, its record read. */
+/* A machine as a host has it: an image and guest memory; each call of the translator that writes one record, through the
+   archive, and the record read. */
 #ifndef MACHINE_H
 #define MACHINE_H
 

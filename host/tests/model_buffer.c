@@ -76,6 +76,7 @@ void drop(struct state *state, unsigned number)
     struct slot *slot = &state->slots[number];
     if (!slot_held(*slot) && (slot->tag != 0 || slot->data != 0))
         event(EVENT_DROP_NOT_HELD);
+    batch_drops(number);
     slot->tag = 0;
     slot->data = 0;
 }
@@ -102,6 +103,7 @@ static unsigned take_victim(struct state *state, unsigned set, unsigned size)
     state->victims &= ~(UINT64_C(3) << 2 * set);
     state->victims |= next << 2 * set;
     event(EVENT_EVICT_4K + size);
+    batch_evicts(WAYS * set + victim);
     if (next == 0)
         event(EVENT_VICTIM_WRAPS);
     return victim;
@@ -117,6 +119,7 @@ void fill(struct state *state, uint64_t address, struct walked page)
     if (way == WAYS)
         way = take_victim(state, set, page.size);
     count_fill(state, first, way, page);
+    batch_fills(first + way);
     struct slot *slot = &state->slots[first + way];
     slot->tag = 1 | (uint64_t)page.global << 1 | current_pcid(state) << 2 | page_number(address, page.size) << 14;
     slot->data = (uint64_t)page.rights.writable | (uint64_t)page.rights.user << 1 |

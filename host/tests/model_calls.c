@@ -31,27 +31,27 @@ static bool width_allowed(uint64_t width)
     return width >= 36 && width <= 52;
 }
 
-bool bad_image(const uint8_t *image, size_t image_len)
+unsigned image_flaws(const uint8_t *image, size_t image_len)
 {
-    if (image_len != 2048) {
-        event(EVENT_IMAGE_LENGTH);
-        return true;
-    }
+    if (image_len != 2048)
+        return 1;
     struct state state = decode(image);
     bool bad_rest = false;
     for (unsigned i = 0; i < REST_WORDS; i++)
         bad_rest = bad_rest || state.rest[i] != 0;
     bool bad_flags = bits(state.flags, 63, 5) != 0;
     bool bad_victims = bits(state.victims, 63, 50) != 0;
-    if (!width_allowed(state.width))
-        event(EVENT_IMAGE_WIDTH);
-    if (bad_flags)
-        event(EVENT_IMAGE_FLAGS);
-    if (bad_victims)
-        event(EVENT_IMAGE_VICTIMS);
-    if (bad_rest)
-        event(EVENT_IMAGE_REST);
-    return !width_allowed(state.width) || bad_flags || bad_victims || bad_rest;
+    return (unsigned)!width_allowed(state.width) << 1 | (unsigned)bad_flags << 2 | (unsigned)bad_victims << 3 |
+           (unsigned)bad_rest << 4;
+}
+
+bool bad_image(const uint8_t *image, size_t image_len)
+{
+    unsigned flaws = image_flaws(image, image_len);
+    for (unsigned i = 0; i < 5; i++)
+        if (bit(flaws, i))
+            event(EVENT_IMAGE_LENGTH + i);
+    return flaws != 0;
 }
 
 uint64_t model_start(uint8_t *image, size_t image_len, uint64_t width, uint8_t *answer, size_t answer_len)

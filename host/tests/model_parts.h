@@ -88,6 +88,15 @@ void fill(struct state *state, uint64_t address, struct walked page);
 enum { ADDRESS, FAULT, REFUSED, DONE };
 void put_answer(uint8_t *answer, uint64_t kind, uint64_t value, uint64_t size, uint64_t read);
 uint64_t refused(uint8_t *answer, uint64_t number, enum event which);
-bool bad_image(const uint8_t *image, size_t image_len); /* refusal 2 for every call but start */
+unsigned image_flaws(const uint8_t *image, size_t image_len); /* what is wrong with it: bit i for event IMAGE_LENGTH + i */
+bool bad_image(const uint8_t *image, size_t image_len);       /* refusal 2 for every call but start */
+
+/* These are told what a translation does, and count where an earlier pair of the same batch comes in; else nothing. */
+void batch_hits(unsigned slot);
+void batch_drops(unsigned slot);
+void batch_evicts(unsigned slot);
+void batch_fills(unsigned slot);
+void batch_reads(uint64_t place); /* an entry in guest memory */
+void batch_marks(uint64_t place);
 
 #endif

@@ -30,6 +30,7 @@ static void count_hit(const struct state *state, struct access access, uint64_t 
 {
     struct slot slot = state->slots[number];
     event(EVENT_HIT_4K + slot_size(number));
+    batch_hits(number);
     if (slot_pcid(slot) != current_pcid(state))
         event(EVENT_HIT_GLOBAL_OTHER);
     if (access.write)

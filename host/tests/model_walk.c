@@ -16,6 +16,7 @@ static struct entry read_entry(struct memory memory, uint64_t address, unsigned 
     if (address < memory.length) {
         entry.word = word_at(memory.bytes + address);
         entry.outside = false;
+        batch_reads(address);
     } else {
         event(EVENT_OUTSIDE_1 + (level - 1));
     }
@@ -81,6 +82,8 @@ static bool add_bit(struct memory memory, struct entry entry, unsigned number)
         return false;
     uint64_t word = word_at(memory.bytes + entry.address);
     put_word(memory.bytes + entry.address, word | UINT64_C(1) << number);
+    if (!bit(word, number))
+        batch_marks(entry.address);
     return !bit(word, number);
 }
 

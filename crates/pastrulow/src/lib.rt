@@ -1,9 +1,10 @@
 // The door for a host in C, which sees each slice as a pointer and then a length. A call answers in the 32 lent bytes and returns the refusal
-// number, or 0; where the answer bytes are not 32, it returns 1 and touches nothing.
+// number, or 0; where the answer bytes are not 32, it returns 1 and touches nothing. A call for many answers in 32 bytes a pair, and returns 10 or 0.
 ghost use mathlib.Core.Path.{_≡_};
 ghost use Rattle.rules.specs.Refusals.{start, translate, invlpg, invpcid, writeCr3, writeMode};
 ghost use Rattle.journal.specs.Calls.{Clears, Reports};
 ghost use Rattle.translator.specs.Contract.{TranslatesInto};
+ghost use Rattle.many.specs.Contract.{TranslatesMany};
 ghost use Rattle.pastrulow.specs.Door.{Passes, version};
 use translator::calls;
 use translator::translation;
@@ -37,6 +38,19 @@ pub extern "C" fn pastrulow_translate(
     ensures { λ r. ⌜ TranslatesInto (translate kind address) (now (answer .entry)) (now (answer .exit)) (now (image .entry)) (now (image .exit)) (now (memory .entry)) (now (memory .exit)) r ⌝ }
 {
     translation::translate_into(image, memory, kind, address, answer)
+}
+
+// The pairs are of a kind and an address, 16 bytes each; the answers are as many records.
+#[no_mangle]
+pub extern "C" fn pastrulow_translate_many(
+    image: &mut [u8],
+    memory: &mut [u8],
+    pairs: &[u8],
+    answers: &mut [u8],
+) -> u64
+    ensures { λ r. ⌜ TranslatesMany (now (pairs .entry)) (now (answers .entry)) (now (answers .exit)) (now (image .entry)) (now (image .exit)) (now (memory .entry)) (now (memory .exit)) r ⌝ }
+{
+    many::translate_many(image, memory, pairs, answers)
 }
 
 #[no_mangle]

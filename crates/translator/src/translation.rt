@@ -39,7 +39,7 @@ pub fn translate(image: &mut [u8], mem: &mut [u8], kind: u64, a: u64) -> Answer
 }
 
 // The same into 32 lent bytes, for the door: returns the refusal number, or 0. By the shorter way: a small page that is held is answered at once, and the rest goes on in functions
-// of their own.
+// of their own. These steps stand in `pair` of `many` too: in line in both they cost less than a call.
 pub fn translate_into(image: &mut [u8], mem: &mut [u8], kind: u64, a: u64, answer: &mut [u8]) -> u64
     ensures { λ r. ⌜ TranslatesInto (translateOf kind a) (now (answer .entry)) (now (answer .exit)) (now (image .entry)) (now (image .exit)) (now (mem .entry)) (now (mem .exit)) r ⌝ }
 {
