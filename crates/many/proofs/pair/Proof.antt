@@ -14,6 +14,9 @@ use Rattle.many.proofs.pair.Tie as tie
 abbrev start : tie.After-translate-refusal → tie.Start
 start t = t .before .before .before .before
 
+abbrev looked : tie.After-serve → tie.After-first
+looked s = s .before .before .before .before .before .before
+
 asked : (t : tie.After-translate-refusal) → Asked (start t .args .image .now) (start t .args .mem .now) (start t .args .unfit) (start t .args .beyond) (start t .args .paged)
 asked t = start t .pre .1
 
@@ -60,7 +63,8 @@ enum-known-at c = search needs
 
 serve-requires : tie.Need-serve-requires
 serve-requires c κs =
-    let x = taken (c .before .before .before .before .before .before .before .before) in
+    let f = c .before .before .before .before .before in
+    let x = taken (f .before .before .before) in
     (long _ _ _ _ x, (search needs, (known _ _ _ _ x, search small-right)))
 
 same-length-3 : tie.Need-same-length-3
@@ -72,29 +76,35 @@ same-length-4 c = search needs
 returns-3 : tie.Need-returns-3
 returns-3 c =
     let s = c .before .before .before in
-    let f = s .before .before .before .before .before .before in
-    by-small _ _ _ _ (taken (c .before .before .before .before .before .before .before .before .before .before .before .before)) (on (c .before .before .before .before .before .before .before .before .before .before .before)) (f .first .result) (f .first .ensures) _ _ _ _ (s .serve .ensures) (c .if3 .taken) (search needs)
+    let f = looked s in
+    by-small _ _ _ _ (taken (f .before .before .before)) (on (f .before .before)) (f .first .result) (f .first .ensures) _ _ _ _ (s .serve .ensures) (c .if3 .taken) (search needs)
 
 look-through-requires : tie.Need-look-through-requires
-look-through-requires c κs = lent _ _ _ _ (taken (c .before .before .before .before .before .before .before .before .before .before .before .before .before .before .before)) _ (search needs)
+look-through-requires c κs = lent _ _ _ _ (taken (looked (c .before .before .before .before .before .before) .before .before .before)) _ (search needs)
 
 enum-told : tie.Need-enum-told
 enum-told c = search needs
 
 look-middle-requires : tie.Need-look-middle-requires
-look-middle-requires c κs = (lent _ _ _ _ (taken (c .before .before .before .before .before .before .before .before)) _ (search needs), search begins-middle)
+look-middle-requires c κs =
+    let f = c .before .before .before .before .before in
+    (lent _ _ _ _ (taken (f .before .before .before)) _ (search needs), search begins-middle)
 
 enum-told-2 : tie.Need-enum-told-2
 enum-told-2 c = search needs
 
 look-large-requires : tie.Need-look-large-requires
-look-large-requires c κs = (lent _ _ _ _ (taken (c .before .before .before .before .before .before .before .before)) _ (search needs), search begins-large)
+look-large-requires c κs =
+    let f = c .before .before .before .before .before in
+    (lent _ _ _ _ (taken (f .before .before .before)) _ (search needs), search begins-large)
 
 enum-told-3 : tie.Need-enum-told-3
 enum-told-3 c = search needs
 
 missed-requires : tie.Need-missed-requires
-missed-requires c κs = lent _ _ _ _ (taken (c .before .before .before .before .before .before .before .before)) _ (search needs)
+missed-requires c κs =
+    let f = c .before .before .before .before .before in
+    lent _ _ _ _ (taken (f .before .before .before)) _ (search needs)
 
 same-length-5 : tie.Need-same-length-5
 same-length-5 c = search needs
@@ -106,7 +116,11 @@ same-length-7 : tie.Need-same-length-7
 same-length-7 c = search needs
 
 returns-4 : tie.Need-returns-4
-returns-4 c = goes-on _ _ _ _ (taken (c .before .before .before .before .before .before .before .before .before .before .before .before .before .before .before .before .before .before .before .before .before .before)) (on (c .before .before .before .before .before .before .before .before .before .before .before .before .before .before .before .before .before .before .before .before .before)) _ _ _ _ (c .before .before .before .before .before .before .look-through .ensures)
+returns-4 c =
+    let w = c .before .before .before .before .before .before in
+    let s = w .before .before .before .before .before .before .before in
+    let f = looked s in
+    goes-on _ _ _ _ (taken (f .before .before .before)) (on (f .before .before)) _ _ _ _ (w .look-through .ensures)
 
 same-length-8 : tie.Need-same-length-8
 same-length-8 c = search needs
@@ -118,7 +132,10 @@ same-length-10 : tie.Need-same-length-10
 same-length-10 c = search needs
 
 returns-5 : tie.Need-returns-5
-returns-5 c = goes-on _ _ _ _ (taken (c .before .before .before .before .before .before .before .before .before .before .before .before .before .before .before)) (on (c .before .before .before .before .before .before .before .before .before .before .before .before .before .before)) _ _ _ _ (c .before .before .before .before .before .before .look-middle .ensures)
+returns-5 c =
+    let w = c .before .before .before .before .before .before in
+    let f = w .before .before .before .before .before .before in
+    goes-on _ _ _ _ (taken (f .before .before .before)) (on (f .before .before)) _ _ _ _ (w .look-middle .ensures)
 
 same-length-11 : tie.Need-same-length-11
 same-length-11 c = search needs
@@ -130,7 +147,10 @@ same-length-13 : tie.Need-same-length-13
 same-length-13 c = search needs
 
 returns-6 : tie.Need-returns-6
-returns-6 c = goes-on _ _ _ _ (taken (c .before .before .before .before .before .before .before .before .before .before .before .before .before .before .before)) (on (c .before .before .before .before .before .before .before .before .before .before .before .before .before .before)) _ _ _ _ (c .before .before .before .before .before .before .look-large .ensures)
+returns-6 c =
+    let w = c .before .before .before .before .before .before in
+    let f = w .before .before .before .before .before .before in
+    goes-on _ _ _ _ (taken (f .before .before .before)) (on (f .before .before)) _ _ _ _ (w .look-large .ensures)
 
 same-length-14 : tie.Need-same-length-14
 same-length-14 c = search needs
@@ -145,7 +165,7 @@ returns-7 : tie.Need-returns-7
 returns-7 c =
     let w = c .before .before .before .before .before .before in
     let f = w .before .before .before .before .before .before in
-    by-walk _ _ _ _ (taken (c .before .before .before .before .before .before .before .before .before .before .before .before .before .before .before)) (on (c .before .before .before .before .before .before .before .before .before .before .before .before .before .before)) (f .first .result) (f .first .ensures) (search needs) _ _ _ _ (w .missed .ensures)
+    by-walk _ _ _ _ (taken (f .before .before .before)) (on (f .before .before)) (f .first .result) (f .first .ensures) (search needs) _ _ _ _ (w .missed .ensures)
 
 pub pair-spec : {M : Type 1} → statement M
 pair-spec =

@@ -89,7 +89,7 @@ same-length-6 c = search needs
 returns-3 : tie.Need-returns-3
 returns-3 c =
     let f = c .before .before .before .before .before in
-    by-held _ _ _ _ (taken (c .before .before .before .before .before .before .before .before)) (on (c .before .before .before .before .before .before .before)) _ (f .find-held .result) (f .find-held .ensures) _ _ (search needs)
+    by-held _ _ _ _ (taken (f .before .before .before)) (on (f .before .before)) _ (f .find-held .result) (f .find-held .ensures) _ _ (search needs)
 
 same-length-7 : tie.Need-same-length-7
 same-length-7 c = search needs
@@ -101,7 +101,7 @@ returns-4 : tie.Need-returns-4
 returns-4 c =
     let w = c .before .before .before .before in
     let f = w .before .before .before .before .before .before .before in
-    by-plain-walk _ _ _ _ (taken (c .before .before .before .before .before .before .before .before .before .before .before .before .before .before)) (on (c .before .before .before .before .before .before .before .before .before .before .before .before .before)) _ (f .find-held .result) (f .find-held .ensures) (search needs) _ _ _ (w .walked .ensures)
+    by-plain-walk _ _ _ _ (taken (f .before .before .before)) (on (f .before .before)) _ (f .find-held .result) (f .find-held .ensures) (search needs) _ _ _ (w .walked .ensures)
 
 pub translate-spec : {M : Type 1} → statement M
 translate-spec =

@@ -15,6 +15,9 @@ use Rattle.translator.proofs.translation.translate_into.Tie as tie
 abbrev start : tie.After-translate-refusal → tie.Start
 start t = t .before .before .before .before .before .before .before .before .before .before .before
 
+abbrev looked : tie.After-serve → tie.After-first
+looked s = s .before .before .before .before .before .before
+
 asked : (t : tie.After-translate-refusal) → Asked (start t .args .image .now) (start t .args .mem .now) (t .before .before .before .before .before .is-unfit .result) (t .before .before .before .beyond-pages .result) (t .before .is-paged .result)
 asked t = record { image = t .before .before .before .before .before .is-unfit .ensures; memory = t .before .before .before .beyond-pages .ensures; paging = t .before .is-paged .ensures }
 
@@ -90,7 +93,8 @@ enum-known-at c = search needs
 
 serve-requires : tie.Need-serve-requires
 serve-requires c κs =
-    let x = taken (c .before .before .before .before .before .before .before .before) in
+    let f = c .before .before .before .before .before in
+    let x = taken (f .before .before .before) in
     (long _ _ _ _ x, (search needs, (known _ _ _ _ x, search small-right)))
 
 same-length-7 : tie.Need-same-length-7
@@ -105,30 +109,36 @@ same-length-9 c = search needs
 returns-4 : tie.Need-returns-4
 returns-4 c =
     let s = c .before .before .before in
-    let f = s .before .before .before .before .before .before in
-    through _ _ _ _ _ _ _ _ (right (c .before .before .before .before .before .before .before .before .before .before .before .before))
-    (by-small _ _ _ _ (taken (c .before .before .before .before .before .before .before .before .before .before .before .before)) (on (c .before .before .before .before .before .before .before .before .before .before .before)) (f .first .result) (f .first .ensures) _ _ _ _ (s .serve .ensures) (c .if4 .taken) (search needs))
+    let f = looked s in
+    through _ _ _ _ _ _ _ _ (right (f .before .before .before))
+    (by-small _ _ _ _ (taken (f .before .before .before)) (on (f .before .before)) (f .first .result) (f .first .ensures) _ _ _ _ (s .serve .ensures) (c .if4 .taken) (search needs))
 
 look-through-requires : tie.Need-look-through-requires
-look-through-requires c κs = lent _ _ _ _ (taken (c .before .before .before .before .before .before .before .before .before .before .before .before .before .before .before)) _ (search needs)
+look-through-requires c κs = lent _ _ _ _ (taken (looked (c .before .before .before .before .before .before) .before .before .before)) _ (search needs)
 
 enum-told : tie.Need-enum-told
 enum-told c = search needs
 
 look-middle-requires : tie.Need-look-middle-requires
-look-middle-requires c κs = (lent _ _ _ _ (taken (c .before .before .before .before .before .before .before .before)) _ (search needs), search begins-middle)
+look-middle-requires c κs =
+    let f = c .before .before .before .before .before in
+    (lent _ _ _ _ (taken (f .before .before .before)) _ (search needs), search begins-middle)
 
 enum-told-2 : tie.Need-enum-told-2
 enum-told-2 c = search needs
 
 look-large-requires : tie.Need-look-large-requires
-look-large-requires c κs = (lent _ _ _ _ (taken (c .before .before .before .before .before .before .before .before)) _ (search needs), search begins-large)
+look-large-requires c κs =
+    let f = c .before .before .before .before .before in
+    (lent _ _ _ _ (taken (f .before .before .before)) _ (search needs), search begins-large)
 
 enum-told-3 : tie.Need-enum-told-3
 enum-told-3 c = search needs
 
 missed-requires : tie.Need-missed-requires
-missed-requires c κs = lent _ _ _ _ (taken (c .before .before .before .before .before .before .before .before)) _ (search needs)
+missed-requires c κs =
+    let f = c .before .before .before .before .before in
+    lent _ _ _ _ (taken (f .before .before .before)) _ (search needs)
 
 same-length-10 : tie.Need-same-length-10
 same-length-10 c = search needs
@@ -141,8 +151,11 @@ same-length-12 c = search needs
 
 returns-5 : tie.Need-returns-5
 returns-5 c =
-    through _ _ _ _ _ _ _ _ (right (c .before .before .before .before .before .before .before .before .before .before .before .before .before .before .before .before .before .before .before .before .before .before))
-    (goes-on _ _ _ _ (taken (c .before .before .before .before .before .before .before .before .before .before .before .before .before .before .before .before .before .before .before .before .before .before)) (on (c .before .before .before .before .before .before .before .before .before .before .before .before .before .before .before .before .before .before .before .before .before)) _ _ _ _ (c .before .before .before .before .before .before .look-through .ensures))
+    let w = c .before .before .before .before .before .before in
+    let s = w .before .before .before .before .before .before .before in
+    let f = looked s in
+    through _ _ _ _ _ _ _ _ (right (f .before .before .before))
+    (goes-on _ _ _ _ (taken (f .before .before .before)) (on (f .before .before)) _ _ _ _ (w .look-through .ensures))
 
 same-length-13 : tie.Need-same-length-13
 same-length-13 c = search needs
@@ -155,8 +168,10 @@ same-length-15 c = search needs
 
 returns-6 : tie.Need-returns-6
 returns-6 c =
-    through _ _ _ _ _ _ _ _ (right (c .before .before .before .before .before .before .before .before .before .before .before .before .before .before .before))
-    (goes-on _ _ _ _ (taken (c .before .before .before .before .before .before .before .before .before .before .before .before .before .before .before)) (on (c .before .before .before .before .before .before .before .before .before .before .before .before .before .before)) _ _ _ _ (c .before .before .before .before .before .before .look-middle .ensures))
+    let w = c .before .before .before .before .before .before in
+    let f = w .before .before .before .before .before .before in
+    through _ _ _ _ _ _ _ _ (right (f .before .before .before))
+    (goes-on _ _ _ _ (taken (f .before .before .before)) (on (f .before .before)) _ _ _ _ (w .look-middle .ensures))
 
 same-length-16 : tie.Need-same-length-16
 same-length-16 c = search needs
@@ -169,8 +184,10 @@ same-length-18 c = search needs
 
 returns-7 : tie.Need-returns-7
 returns-7 c =
-    through _ _ _ _ _ _ _ _ (right (c .before .before .before .before .before .before .before .before .before .before .before .before .before .before .before))
-    (goes-on _ _ _ _ (taken (c .before .before .before .before .before .before .before .before .before .before .before .before .before .before .before)) (on (c .before .before .before .before .before .before .before .before .before .before .before .before .before .before)) _ _ _ _ (c .before .before .before .before .before .before .look-large .ensures))
+    let w = c .before .before .before .before .before .before in
+    let f = w .before .before .before .before .before .before in
+    through _ _ _ _ _ _ _ _ (right (f .before .before .before))
+    (goes-on _ _ _ _ (taken (f .before .before .before)) (on (f .before .before)) _ _ _ _ (w .look-large .ensures))
 
 same-length-19 : tie.Need-same-length-19
 same-length-19 c = search needs
@@ -185,8 +202,8 @@ returns-8 : tie.Need-returns-8
 returns-8 c =
     let w = c .before .before .before .before .before .before in
     let f = w .before .before .before .before .before .before in
-    through _ _ _ _ _ _ _ _ (right (c .before .before .before .before .before .before .before .before .before .before .before .before .before .before .before))
-    (by-walk _ _ _ _ (taken (c .before .before .before .before .before .before .before .before .before .before .before .before .before .before .before)) (on (c .before .before .before .before .before .before .before .before .before .before .before .before .before .before)) (f .first .result) (f .first .ensures) (search needs) _ _ _ _ (w .missed .ensures))
+    through _ _ _ _ _ _ _ _ (right (f .before .before .before))
+    (by-walk _ _ _ _ (taken (f .before .before .before)) (on (f .before .before)) (f .first .result) (f .first .ensures) (search needs) _ _ _ _ (w .missed .ensures))
 
 pub translate-into-spec : {M : Type 1} → statement M
 translate-into-spec =
