@@ -20,7 +20,7 @@ use Rattle.rules.proofs.BoolLaws.{or-right}
 use Rattle.rules.proofs.FitLaws.{fit-stays, flags-stay, memory-stays}
 use Rattle.rules.proofs.ManyLaws.{one-pair, record-long}
 use Rattle.refusals.specs.Asked.{Asked}
-use Rattle.translator.specs.Contract.{Answers}
+use Rattle.direct.specs.Contract.{Answers}
 use Rattle.many.specs.Contract.{TranslatesMany}
 
 -- ---- whether they are taken

@@ -4,7 +4,7 @@ ghost use lib.ListN.{length};
 ghost use Rattle.rules.specs.Refusals.{translate};
 ghost use Rattle.rules.specs.Many.{noPairs};
 ghost use Rattle.refusals.specs.Asked.{Asked};
-ghost use Rattle.translator.specs.Contract.{Answers};
+ghost use Rattle.direct.specs.Contract.{Answers};
 ghost use Rattle.many.specs.Contract.{TranslatesMany};
 use buffer::look;
 use buffer::look::Start;
@@ -49,14 +49,14 @@ fn pair(
     }
     match look::first(image, a) {
         Start::Small(at) => {
-            if paging::serve(image, answer, at, Page4K::LENGTH, kind, a) {
+            if direct::serve(image, answer, at, Page4K::LENGTH, kind, a) {
                 return 0;
             }
-            paging::look_through(image, answer, mem, kind, a)
+            direct::look_through(image, answer, mem, kind, a)
         }
-        Start::Middle => paging::look_middle(image, answer, mem, kind, a),
-        Start::Large => paging::look_large(image, answer, mem, kind, a),
-        Start::Nowhere => paging::missed(image, answer, mem, kind, a),
+        Start::Middle => direct::look_middle(image, answer, mem, kind, a),
+        Start::Large => direct::look_large(image, answer, mem, kind, a),
+        Start::Nowhere => direct::missed(image, answer, mem, kind, a),
     }
 }
 

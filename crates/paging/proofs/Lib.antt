@@ -1,3 +1,3 @@
 pub mod Pages
 pub mod Walking
-pub mod Serving
+pub mod Holding

@@ -10,7 +10,7 @@ use Rattle.rules.specs.declared.Rights.{Rights}
 use Rattle.rules.specs.declared.Found.{Found}
 use Rattle.rules.specs.declared.Found.the-variants.{Page}
 use Rattle.rules.proofs.SizeLaws.{size-at, length-in}
-use Rattle.paging.specs.Steps.{InRange}
+use Rattle.paging.specs.Paged.{InRange}
 
 module _ (f : Found) (base level n : ℕ) (r : Rights) (g d : Bool) (z : Size) (fits : InRange f) (e : f ≡ Page base level r g d n) (size : z ≡ sizeAt level) where
   page-fits : InRange (Page base level r g d n)

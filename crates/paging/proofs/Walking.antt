@@ -12,7 +12,7 @@ use Rattle.rules.specs.Memory.{Memory, entryAt}
 use Rattle.rules.specs.Walk.{Walked, walk, reachIn}
 use Rattle.rules.specs.Buffer.{filled}
 use Rattle.rules.specs.Answers.{tellsFetch, code, answerOf}
-use Rattle.rules.specs.Calls.{After, accessOf}
+use Rattle.rules.specs.Calls.{accessOf}
 use Rattle.rules.specs.declared.Size.{Size}
 use Rattle.rules.specs.declared.Control.{Control}
 use Rattle.rules.specs.declared.Access.{Access}
@@ -28,8 +28,7 @@ use Rattle.rules.proofs.PlaceLaws.{width-at, flags-at, cr3-at}
 use Rattle.walk.specs.Packed.{Ready, Walks}
 use Rattle.buffer.specs.Fill.{filledAt}
 use Rattle.numbers.specs.Needs.{IsPcid, neededOf}
-use Rattle.records.specs.Record.{Recorded}
-use Rattle.paging.specs.Steps.{Usable, InRange, Finishes, missed, Encodes, Writes}
+use Rattle.paging.specs.Paged.{Usable, InRange, Finishes, missed, Encodes}
 
 -- ---- what a walk goes by
 pub over-root : (b : List ℕ) (w : ℕ) → Usable b → w ≡ wordAt b 0 → 12 ≤ w
@@ -114,6 +113,3 @@ walks-it b b′ mem mem′ c t n a f r e n-is w h =
       image = h .image ∙ ap (λ (x : Found). encode (filled (decode b) a x)) q;
       memory = ap (λ (x : Walked). x .memory) v;
     }
-
-pub recorded : (o : After) (r′ b′ : List ℕ) (mem′ : Memory) (r : Answer) (n : ℕ) → Encodes o b′ mem′ r → Recorded r r′ n → Writes o r′ b′ mem′ n
-recorded o r′ b′ mem′ r n h g = record { answer = subst (λ (x : Answer). Recorded x r′ n) (h .answer) g; image = h .image; memory = h .memory }

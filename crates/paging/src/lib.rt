@@ -1,17 +1,13 @@
-// An accepted translation with paging on: from the buffer where a held page serves, else by the walk, whose finding is kept. Plainly, as an answer; and by steps into a
-// record, small pages first.
+// An accepted translation with paging on: from the buffer where a held page serves, else by the walk, whose finding is kept.
 ghost use mathlib.Core.Path.{_≡_};
-ghost use mathlib.Core.List.{_++_};
 ghost use Prim.Native.Nat.{_%_, _^_, _≤_, _<_};
 ghost use lib.ListN.{length};
 ghost use Rattle.rules.specs.Image.{encode, decode, control, IsImage};
-ghost use Rattle.rules.specs.Buffer.{filled, find};
-ghost use Rattle.rules.specs.Calls.{accessOf, looked};
-ghost use Rattle.rules.specs.Sizes.{Is, small, middle, ways};
+ghost use Rattle.rules.specs.Buffer.{filled};
+ghost use Rattle.rules.specs.Calls.{accessOf};
+ghost use Rattle.rules.specs.Sizes.{Is};
 ghost use Rattle.rules.specs.declared.Found.the-variants.{Page};
-ghost use Rattle.buffer.specs.Look.{Right, FirstHeld};
-ghost use Rattle.buffer.specs.declared.look.Place.the-variants.{At, Nowhere};
-ghost use Rattle.paging.specs.Steps.{Usable, Lent, InRange, Finishes, missed as missedOf, Encodes, Writes, Finds, Serves};
+ghost use Rattle.paging.specs.Paged.{Usable, InRange, Finishes, missed, Encodes, Finds};
 use buffer::look;
 use buffer::look::Place;
 use rules::Answer;
@@ -88,7 +84,7 @@ fn finish(image: &mut [u8], flags: u64, kind: u64, a: u64, f: Found) -> Answer
 // The walk is made, and finished.
 pub fn walked(image: &mut [u8], mem: &mut [u8], kind: u64, a: u64) -> Answer
     requires { ⌜ Usable (now image) × ((length (now mem) % 8 ≡ 0) × (kind ≤ 5)) ⌝ }
-    ensures { λ r. ⌜ Encodes (missedOf (decode (now (image .entry))) (now (mem .entry)) (accessOf kind) a) (now (image .exit)) (now (mem .exit)) r ⌝ }
+    ensures { λ r. ⌜ Encodes (missed (decode (now (image .entry))) (now (mem .entry)) (accessOf kind) a) (now (image .exit)) (now (mem .exit)) r ⌝ }
 {
     let c = control_of(image);
     let need = numbers::needed(c.flags, kind);
@@ -112,74 +108,5 @@ pub fn find_held(image: &mut [u8], kind: u64, a: u64) -> Held
             Held::Nothing
         }
         Place::Nowhere => Held::Nothing,
-    }
-}
-
-// The steps into a record. One that cannot answer calls the next one last, with what it was given and in that order, so that the call is a jump.
-pub fn missed(image: &mut [u8], answer: &mut [u8], mem: &mut [u8], kind: u64, a: u64) -> u64
-    requires { ⌜ Lent (now image) (now answer) (now mem) kind ⌝ }
-    ensures { λ r. ⌜ Writes (missedOf (decode (now (image .entry))) (now (mem .entry)) (accessOf kind) a) (now (answer .exit)) (now (image .exit)) (now (mem .exit)) r ⌝ }
-{
-    records::write_record(answer, walked(image, mem, kind, a))
-}
-
-// Whether the slot at a place answers: it is one's own, and its page allows the access. Then its answer is written.
-pub fn serve(image: &[u8], answer: &mut [u8], at: usize, size: u64, kind: u64, a: u64) -> bool
-    requires { ⌜ (length (now image) ≡ 2048) × ((length (now answer) ≡ 32) × ((kind ≤ 5) × Right (At at size))) ⌝ }
-    ensures { λ r. ⌜ Serves (now (image .entry)) at size (accessOf kind) a (now (answer .entry)) (now (answer .exit)) r ⌝ }
-{
-    if look::is_of(image, at, numbers::pcid_of(image)) {
-        let d = words::read_word(image, 40 + at);
-        if numbers::serves(words::read_word(image, 8), kind, d) {
-            records::put(answer, 0, numbers::hit_address(d, a, size), size, 0);
-            return true;
-        }
-    }
-    false
-}
-
-// A page is held, and is another's or does not allow the access.
-pub fn look_through(image: &mut [u8], answer: &mut [u8], mem: &mut [u8], kind: u64, a: u64) -> u64
-    requires { ⌜ Lent (now image) (now answer) (now mem) kind ⌝ }
-    ensures { λ r. ⌜ Writes (looked (decode (now (image .entry))) (now (mem .entry)) (accessOf kind) a (find (decode (now (image .entry))) a)) (now (answer .exit)) (now (image .exit)) (now (mem .exit)) r ⌝ }
-{
-    match find_held(image, kind, a) {
-        Held::Page(value, size) => {
-            records::put(answer, 0, value, size, 0);
-            0
-        }
-        Held::Nothing => missed(image, answer, mem, kind, a),
-    }
-}
-
-// No page of 4 KiB or 2 MiB is held: one of 1 GiB, then the walk.
-pub fn look_large(image: &mut [u8], answer: &mut [u8], mem: &mut [u8], kind: u64, a: u64) -> u64
-    requires { ⌜ Lent (now image) (now answer) (now mem) kind × FirstHeld (now image) a (ways small a ++ ways middle a) Nowhere ⌝ }
-    ensures { λ r. ⌜ Writes (looked (decode (now (image .entry))) (now (mem .entry)) (accessOf kind) a (find (decode (now (image .entry))) a)) (now (answer .exit)) (now (image .exit)) (now (mem .exit)) r ⌝ }
-{
-    match look::large(image, a) {
-        Place::At(at, size) => {
-            if serve(image, answer, at, size, kind, a) {
-                return 0;
-            }
-            look_through(image, answer, mem, kind, a)
-        }
-        Place::Nowhere => missed(image, answer, mem, kind, a),
-    }
-}
-
-// No page of 4 KiB is held: one of 2 MiB, then the larger.
-pub fn look_middle(image: &mut [u8], answer: &mut [u8], mem: &mut [u8], kind: u64, a: u64) -> u64
-    requires { ⌜ Lent (now image) (now answer) (now mem) kind × FirstHeld (now image) a (ways small a) Nowhere ⌝ }
-    ensures { λ r. ⌜ Writes (looked (decode (now (image .entry))) (now (mem .entry)) (accessOf kind) a (find (decode (now (image .entry))) a)) (now (answer .exit)) (now (image .exit)) (now (mem .exit)) r ⌝ }
-{
-    match look::middle(image, a) {
-        Place::At(at, size) => {
-            if serve(image, answer, at, size, kind, a) {
-                return 0;
-            }
-            look_through(image, answer, mem, kind, a)
-        }
-        Place::Nowhere => look_large(image, answer, mem, kind, a),
     }
 }

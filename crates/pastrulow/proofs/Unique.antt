@@ -1,5 +1,5 @@
 -- The contract admits one outcome: two programs that keep it return the same number and leave the same bytes. Of translate and of a call for many
--- `Unique` of the translator and of `many` say it.
+-- `Unique` of `direct` and of `many` say it.
 use mathlib.Core.Path.{_≡_}
 use mathlib.Core.List.{List}
 use Prim.Native.Nat.{ℕ}

@@ -1,5 +1,5 @@
 -- What the host's calls that answer in one record leave, as the rules' door says it: the number returned, the answer bytes and the image. What translate and a call for many leave is
--- said by the contracts of the translator and of `many`.
+-- said by the contracts of `direct` and of `many`.
 use mathlib.Core.Path.{_≡_}
 use mathlib.Core.List.{List}
 use Prim.Native.Nat.{ℕ}

@@ -3,11 +3,10 @@
 ghost use mathlib.Core.Path.{_≡_};
 ghost use Rattle.rules.specs.Refusals.{start, translate, invlpg, invpcid, writeCr3, writeMode};
 ghost use Rattle.journal.specs.Calls.{Clears, Reports};
-ghost use Rattle.translator.specs.Contract.{TranslatesInto};
+ghost use Rattle.direct.specs.Contract.{TranslatesInto};
 ghost use Rattle.many.specs.Contract.{TranslatesMany};
 ghost use Rattle.pastrulow.specs.Door.{Passes, version};
 use translator::calls;
-use translator::translation;
 
 // The refusal of answer bytes that are no record.
 const NO_RECORD: u64 = 1;
@@ -37,7 +36,7 @@ pub extern "C" fn pastrulow_translate(
 ) -> u64
     ensures { λ r. ⌜ TranslatesInto (translate kind address) (now (answer .entry)) (now (answer .exit)) (now (image .entry)) (now (image .exit)) (now (memory .entry)) (now (memory .exit)) r ⌝ }
 {
-    translation::translate_into(image, memory, kind, address, answer)
+    direct::translate_into(image, memory, kind, address, answer)
 }
 
 // The pairs are of a kind and an address, 16 bytes each; the answers are as many records.

@@ -1,10 +1,10 @@
--- What the calls leave, as the rules' call says it, and through the door.
+-- What the calls leave, as the rules' call says it.
 use mathlib.Core.Path.{_≡_}
 use mathlib.Core.List.{List}
 use Prim.Native.Nat.{ℕ}
 use Rattle.rules.specs.Memory.{Memory}
 use Rattle.rules.specs.Refusals.{Request}
-use Rattle.rules.specs.Calls.{Outcome, Left, call, written, door}
+use Rattle.rules.specs.Calls.{Outcome, call}
 use Rattle.rules.specs.declared.Answer.{Answer}
 
 -- a call that is lent no guest memory, whatever guest memory there is
@@ -14,11 +14,3 @@ pub record Leaves (q : Request) (b b′ : List ℕ) (r : Answer) : Type 0 where
 -- what translate leaves
 pub record Translates (q : Request) (b b′ : List ℕ) (mem mem′ : Memory) (r : Answer) : Type 0 where
   pub outcome : _≡_ {A = Outcome} (record { answer = r; image = b′; memory = mem′ }) (call b mem q)
-
--- ---- through the door: the number returned, and every byte after it
-pub record TranslatesInto (q : Request) (r r′ b b′ : List ℕ) (mem mem′ : Memory) (n : ℕ) : Type 0 where
-  pub left : _≡_ {A = Left} (record { number = n; answer = r′; image = b′; memory = mem′ }) (door r b mem q)
-
--- the same where there is room for a record
-pub record Answers (q : Request) (r′ b b′ : List ℕ) (mem mem′ : Memory) (n : ℕ) : Type 0 where
-  pub left : _≡_ {A = Left} (record { number = n; answer = r′; image = b′; memory = mem′ }) (written (call b mem q))

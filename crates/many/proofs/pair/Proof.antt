@@ -6,7 +6,8 @@ use Rattle.rules.specs.Image.{decode, pg}
 use Rattle.rules.specs.Refusals.{translate, refusal}
 use Rattle.refusals.specs.Asked.{Asked}
 use Rattle.buffer.proofs.Looking.{begins-middle, begins-large}
-use Rattle.translator.proofs.Translating.{small-right, refuses-it, Accepts, accepts, long, paging-on, paging-off, known, lent, flat, goes-on, by-small, by-walk}
+use Rattle.translator.proofs.Translating.{Accepts, accepts, long, paging-on, paging-off, known}
+use Rattle.direct.proofs.Recording.{small-right, writes-refusal, lent, writes-flat, writes-looked, writes-small, writes-walk}
 use borrow.Author.Needs.{needs}
 use Rattle.many.proofs.pair.Statement.{statement}
 use Rattle.many.proofs.pair.Tie as tie
@@ -44,7 +45,7 @@ same-length c = search needs
 returns : tie.Need-returns
 returns c =
     let h = number (c .before .before .before .before .before) in
-    search (refuses-it, h)
+    search (writes-refusal, h)
 
 put-requires : tie.Need-put-requires
 put-requires c κs = search needs
@@ -53,7 +54,7 @@ same-length-2 : tie.Need-same-length-2
 same-length-2 c = search needs
 
 returns-2 : tie.Need-returns-2
-returns-2 c = flat _ _ _ _ (taken (c .before .before .before .before .before)) (off (c .before .before .before .before)) _ (c .before .before .put .ensures)
+returns-2 c = writes-flat _ _ _ _ (taken (c .before .before .before .before .before)) (off (c .before .before .before .before)) _ (c .before .before .put .ensures)
 
 first-requires : tie.Need-first-requires
 first-requires c κs = long _ _ _ _ (taken (c .before .before))
@@ -77,7 +78,7 @@ returns-3 : tie.Need-returns-3
 returns-3 c =
     let s = c .before .before .before in
     let f = looked s in
-    by-small _ _ _ _ (taken (f .before .before .before)) (on (f .before .before)) (f .first .result) (f .first .ensures) _ _ _ _ (s .serve .ensures) (c .if3 .taken) (search needs)
+    writes-small _ _ _ _ (taken (f .before .before .before)) (on (f .before .before)) (f .first .result) (f .first .ensures) _ _ _ _ (s .serve .ensures) (c .if3 .taken) (search needs)
 
 look-through-requires : tie.Need-look-through-requires
 look-through-requires c κs = lent _ _ _ _ (taken (looked (c .before .before .before .before .before .before) .before .before .before)) _ (search needs)
@@ -120,7 +121,7 @@ returns-4 c =
     let w = c .before .before .before .before .before .before in
     let s = w .before .before .before .before .before .before .before in
     let f = looked s in
-    goes-on _ _ _ _ (taken (f .before .before .before)) (on (f .before .before)) _ _ _ _ (w .look-through .ensures)
+    writes-looked _ _ _ _ (taken (f .before .before .before)) (on (f .before .before)) _ _ _ _ (w .look-through .ensures)
 
 same-length-8 : tie.Need-same-length-8
 same-length-8 c = search needs
@@ -135,7 +136,7 @@ returns-5 : tie.Need-returns-5
 returns-5 c =
     let w = c .before .before .before .before .before .before in
     let f = w .before .before .before .before .before .before in
-    goes-on _ _ _ _ (taken (f .before .before .before)) (on (f .before .before)) _ _ _ _ (w .look-middle .ensures)
+    writes-looked _ _ _ _ (taken (f .before .before .before)) (on (f .before .before)) _ _ _ _ (w .look-middle .ensures)
 
 same-length-11 : tie.Need-same-length-11
 same-length-11 c = search needs
@@ -150,7 +151,7 @@ returns-6 : tie.Need-returns-6
 returns-6 c =
     let w = c .before .before .before .before .before .before in
     let f = w .before .before .before .before .before .before in
-    goes-on _ _ _ _ (taken (f .before .before .before)) (on (f .before .before)) _ _ _ _ (w .look-large .ensures)
+    writes-looked _ _ _ _ (taken (f .before .before .before)) (on (f .before .before)) _ _ _ _ (w .look-large .ensures)
 
 same-length-14 : tie.Need-same-length-14
 same-length-14 c = search needs
@@ -165,7 +166,7 @@ returns-7 : tie.Need-returns-7
 returns-7 c =
     let w = c .before .before .before .before .before .before in
     let f = w .before .before .before .before .before .before in
-    by-walk _ _ _ _ (taken (f .before .before .before)) (on (f .before .before)) (f .first .result) (f .first .ensures) (search needs) _ _ _ _ (w .missed .ensures)
+    writes-walk _ _ _ _ (taken (f .before .before .before)) (on (f .before .before)) (f .first .result) (f .first .ensures) (search needs) _ _ _ _ (w .missed .ensures)
 
 pub pair-spec : {M : Type 1} → statement M
 pair-spec =

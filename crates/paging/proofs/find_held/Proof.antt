@@ -1,5 +1,5 @@
 -- The first match answers, or goes; or there is none.
-use Rattle.paging.proofs.Serving.{match-fits, match-in, match-pos, match-low, match-serves, match-goes, match-none}
+use Rattle.paging.proofs.Holding.{match-fits, match-in, match-pos, match-low, match-serves, match-goes, match-none}
 use borrow.Author.Needs.{needs}
 use Rattle.paging.proofs.find_held.Statement.{statement}
 use Rattle.paging.proofs.find_held.Tie as tie

@@ -5,8 +5,8 @@ use native.Mathlib.Omega.{arith}
 use Rattle.rules.specs.Image.{decode, pg}
 use Rattle.rules.specs.Refusals.{translate, refusal}
 use Rattle.refusals.specs.Asked.{Asked}
-use Rattle.paging.proofs.Serving.{still-usable}
-use Rattle.translator.proofs.Translating.{refuses-plainly, Accepts, accepts, paging-on, paging-off, known, usable, whole, flat-plainly, by-held, by-plain-walk}
+use Rattle.paging.proofs.Holding.{still-usable}
+use Rattle.translator.proofs.Translating.{refuses-it, Accepts, accepts, paging-on, paging-off, known, usable, whole, flat, by-held, by-walk}
 use borrow.Author.Needs.{needs}
 use Rattle.translator.proofs.translation.translate.Statement.{statement}
 use Rattle.translator.proofs.translation.translate.Tie as tie
@@ -50,7 +50,7 @@ same-length-2 c = search needs
 returns : tie.Need-returns
 returns c =
     let h = number (c .before) in
-    search (refuses-plainly, h)
+    search (refuses-it, h)
 
 same-length-3 : tie.Need-same-length-3
 same-length-3 c = search needs
@@ -59,7 +59,7 @@ same-length-4 : tie.Need-same-length-4
 same-length-4 c = search needs
 
 returns-2 : tie.Need-returns-2
-returns-2 c = flat-plainly _ _ _ _ (taken (c .before)) (off c)
+returns-2 c = flat _ _ _ _ (taken (c .before)) (off c)
 
 find-held-requires : tie.Need-find-held-requires
 find-held-requires c κs =
@@ -76,7 +76,7 @@ walked-requires : tie.Need-walked-requires
 walked-requires c κs =
     let f = c .before .before .before .before .before .before in
     let e = f .before .before .before in (
-      still-usable _ _ (start (e .before) .args .mem .now) (start (e .before) .args .kind) (start (e .before) .args .a) (f .find-held .result) (f .find-held .ensures) (search needs),
+      still-usable _ _ (start (e .before) .args .kind) (start (e .before) .args .a) (f .find-held .result) (f .find-held .ensures) (search needs),
       (whole _ _ _ _ (taken e), known _ _ _ _ (taken e)),
     )
 
@@ -101,7 +101,7 @@ returns-4 : tie.Need-returns-4
 returns-4 c =
     let w = c .before .before .before .before in
     let f = w .before .before .before .before .before .before .before in
-    by-plain-walk _ _ _ _ (taken (f .before .before .before)) (on (f .before .before)) _ (f .find-held .result) (f .find-held .ensures) (search needs) _ _ _ (w .walked .ensures)
+    by-walk _ _ _ _ (taken (f .before .before .before)) (on (f .before .before)) _ (f .find-held .result) (f .find-held .ensures) (search needs) _ _ _ (w .walked .ensures)
 
 pub translate-spec : {M : Type 1} → statement M
 translate-spec =

@@ -1,8 +1,8 @@
 -- What is held answers, or the walk is made.
-use Rattle.paging.proofs.Serving.{answers-held, still-lent, walks-on}
+use Rattle.direct.proofs.Serving.{answers-held, still-lent, walks-on}
 use borrow.Author.Needs.{needs}
-use Rattle.paging.proofs.look_through.Statement.{statement}
-use Rattle.paging.proofs.look_through.Tie as tie
+use Rattle.direct.proofs.look_through.Statement.{statement}
+use Rattle.direct.proofs.look_through.Tie as tie
 
 find-held-requires : tie.Need-find-held-requires
 find-held-requires c κs = search needs

@@ -1,24 +1,18 @@
--- The steps of a translation, over the image's bytes: what each is lent, and what it writes.
-use Prim.Native.Nat.{ℕ, _/_, _%_, _^_, _≤_, _<_}
+-- An accepted translation with paging on, over the image's bytes: what it is lent, what is held, and what a walk leaves.
+use Prim.Native.Nat.{ℕ, _^_, _≤_, _<_}
 use mathlib.Core.Path.{_≡_}
-use mathlib.Core.Bool.{Bool, cond, _&&_}
 use mathlib.Core.List.{List}
-use lib.ListN.{length}
-use Rattle.rules.specs.Sizes.{sizeOf}
-use Rattle.rules.specs.Image.{Image, encode, decode, control, pcid, IsImage}
+use Rattle.rules.specs.Image.{Image, encode, decode, control, IsImage}
 use Rattle.rules.specs.Memory.{Memory}
 use Rattle.rules.specs.Walk.{walk}
-use Rattle.rules.specs.Buffer.{find, serves, hitAddress, filled}
-use Rattle.rules.specs.Answers.{answerOf, numbers, recordBytes}
+use Rattle.rules.specs.Buffer.{find, filled}
+use Rattle.rules.specs.Answers.{answerOf}
 use Rattle.rules.specs.Calls.{After, looked}
 use Rattle.rules.specs.declared.Access.{Access}
 use Rattle.rules.specs.declared.Found.{Found}
 use Rattle.rules.specs.declared.Found.the-variants.{Page, Fault}
 use Rattle.rules.specs.declared.Answer.{Answer}
 use Rattle.rules.specs.declared.Answer.the-variants.{Address}
-use Rattle.sets.specs.Ways.{tagIn}
-use Rattle.buffer.specs.Look.{isOf}
-use Rattle.records.specs.Record.{Recorded}
 use Rattle.paging.specs.declared.Held.{Held}
 use Rattle.paging.specs.declared.Held.the-variants.{Page as HeldPage, Nothing}
 
@@ -29,22 +23,9 @@ pub record Usable (b : List ℕ) : Type 0 where
   pub wide : 36 ≤ decode b .width
   pub narrow : decode b .width ≤ 52
 
--- such an image, a record's room, whole words of memory, and a kind that there is
-pub record Lent (b r : List ℕ) (mem : Memory) (k : ℕ) : Type 0 where
-  pub usable : Usable b
-  pub room : length r ≡ 32
-  pub whole : length mem % 8 ≡ 0
-  pub known : k ≤ 5
-
 -- ---- what is left: the answer, bytes and memory of an outcome over parts
 pub record Encodes (o : After) (b′ : List ℕ) (mem′ : Memory) (r : Answer) : Type 0 where
   pub answer : r ≡ o .answer
-  pub image : b′ ≡ encode (o .image)
-  pub memory : mem′ ≡ o .memory
-
--- the same with the answer in its record, and the number that is returned
-pub record Writes (o : After) (r′ b′ : List ℕ) (mem′ : Memory) (n : ℕ) : Type 0 where
-  pub answer : Recorded (o .answer) r′ n
   pub image : b′ ≡ encode (o .image)
   pub memory : mem′ ≡ o .memory
 
@@ -73,8 +54,3 @@ abbrev pub Finds : List ℕ → List ℕ → Access → ℕ → Held → Type 0
 Finds b b′ k a (HeldPage v l) =
     (b′ ≡ b) × ((mem : Memory) → looked (decode b) mem k a (find (decode b) a) ≡ record { answer = Address v l 0; image = decode b; memory = mem })
 Finds b b′ k a Nothing = Usable b′ × ((mem : Memory) → looked (decode b) mem k a (find (decode b) a) ≡ missed (decode b′) mem k a)
-
--- ---- a held page: the slot at a place answers if it is one's own and allows the access; then its record is written, else nothing
-pub record Serves (b : List ℕ) (at l : ℕ) (k : Access) (a : ℕ) (r r′ : List ℕ) (v : Bool) : Type 0 where
-  pub told : v ≡ (isOf (pcid (decode b)) (tagIn b (at / 16)) && serves (control (decode b)) k (decode b .slots (at / 16) .datum))
-  pub answer : r′ ≡ cond v (recordBytes (numbers (Address (hitAddress (sizeOf (at / 16)) (decode b .slots (at / 16) .datum) a) l 0))) r

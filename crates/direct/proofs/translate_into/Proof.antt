@@ -7,10 +7,11 @@ use Rattle.rules.specs.Image.{decode, pg}
 use Rattle.rules.specs.Refusals.{translate, refusal}
 use Rattle.refusals.specs.Asked.{Asked}
 use Rattle.buffer.proofs.Looking.{begins-middle, begins-large}
-use Rattle.translator.proofs.Translating.{turned-away, through, small-right, refuses-it, Accepts, accepts, long, paging-on, paging-off, known, lent, flat, goes-on, by-small, by-walk}
+use Rattle.translator.proofs.Translating.{Accepts, accepts, long, paging-on, paging-off, known}
+use Rattle.direct.proofs.Recording.{turned-away, through, small-right, writes-refusal, lent, writes-flat, writes-looked, writes-small, writes-walk}
 use borrow.Author.Needs.{needs}
-use Rattle.translator.proofs.translation.translate_into.Statement.{statement}
-use Rattle.translator.proofs.translation.translate_into.Tie as tie
+use Rattle.direct.proofs.translate_into.Statement.{statement}
+use Rattle.direct.proofs.translate_into.Tie as tie
 
 abbrev start : tie.After-translate-refusal → tie.Start
 start t = t .before .before .before .before .before .before .before .before .before .before .before
@@ -66,7 +67,7 @@ same-length-3 c = search needs
 returns-2 : tie.Need-returns-2
 returns-2 c =
     let h = number (c .before .before .before .before .before) in
-    search (through, refuses-it, h)
+    search (through, writes-refusal, h)
 
 put-requires : tie.Need-put-requires
 put-requires c κs = search needs
@@ -83,7 +84,7 @@ same-length-6 c = search needs
 returns-3 : tie.Need-returns-3
 returns-3 c =
     through _ _ _ _ _ _ _ _ (right (c .before .before .before .before .before))
-    (flat _ _ _ _ (taken (c .before .before .before .before .before)) (off (c .before .before .before .before)) _ (c .before .before .put .ensures))
+    (writes-flat _ _ _ _ (taken (c .before .before .before .before .before)) (off (c .before .before .before .before)) _ (c .before .before .put .ensures))
 
 first-requires : tie.Need-first-requires
 first-requires c κs = long _ _ _ _ (taken (c .before .before))
@@ -111,7 +112,7 @@ returns-4 c =
     let s = c .before .before .before in
     let f = looked s in
     through _ _ _ _ _ _ _ _ (right (f .before .before .before))
-    (by-small _ _ _ _ (taken (f .before .before .before)) (on (f .before .before)) (f .first .result) (f .first .ensures) _ _ _ _ (s .serve .ensures) (c .if4 .taken) (search needs))
+    (writes-small _ _ _ _ (taken (f .before .before .before)) (on (f .before .before)) (f .first .result) (f .first .ensures) _ _ _ _ (s .serve .ensures) (c .if4 .taken) (search needs))
 
 look-through-requires : tie.Need-look-through-requires
 look-through-requires c κs = lent _ _ _ _ (taken (looked (c .before .before .before .before .before .before) .before .before .before)) _ (search needs)
@@ -155,7 +156,7 @@ returns-5 c =
     let s = w .before .before .before .before .before .before .before in
     let f = looked s in
     through _ _ _ _ _ _ _ _ (right (f .before .before .before))
-    (goes-on _ _ _ _ (taken (f .before .before .before)) (on (f .before .before)) _ _ _ _ (w .look-through .ensures))
+    (writes-looked _ _ _ _ (taken (f .before .before .before)) (on (f .before .before)) _ _ _ _ (w .look-through .ensures))
 
 same-length-13 : tie.Need-same-length-13
 same-length-13 c = search needs
@@ -171,7 +172,7 @@ returns-6 c =
     let w = c .before .before .before .before .before .before in
     let f = w .before .before .before .before .before .before in
     through _ _ _ _ _ _ _ _ (right (f .before .before .before))
-    (goes-on _ _ _ _ (taken (f .before .before .before)) (on (f .before .before)) _ _ _ _ (w .look-middle .ensures))
+    (writes-looked _ _ _ _ (taken (f .before .before .before)) (on (f .before .before)) _ _ _ _ (w .look-middle .ensures))
 
 same-length-16 : tie.Need-same-length-16
 same-length-16 c = search needs
@@ -187,7 +188,7 @@ returns-7 c =
     let w = c .before .before .before .before .before .before in
     let f = w .before .before .before .before .before .before in
     through _ _ _ _ _ _ _ _ (right (f .before .before .before))
-    (goes-on _ _ _ _ (taken (f .before .before .before)) (on (f .before .before)) _ _ _ _ (w .look-large .ensures))
+    (writes-looked _ _ _ _ (taken (f .before .before .before)) (on (f .before .before)) _ _ _ _ (w .look-large .ensures))
 
 same-length-19 : tie.Need-same-length-19
 same-length-19 c = search needs
@@ -203,7 +204,7 @@ returns-8 c =
     let w = c .before .before .before .before .before .before in
     let f = w .before .before .before .before .before .before in
     through _ _ _ _ _ _ _ _ (right (f .before .before .before))
-    (by-walk _ _ _ _ (taken (f .before .before .before)) (on (f .before .before)) (f .first .result) (f .first .ensures) (search needs) _ _ _ _ (w .missed .ensures))
+    (writes-walk _ _ _ _ (taken (f .before .before .before)) (on (f .before .before)) (f .first .result) (f .first .ensures) (search needs) _ _ _ _ (w .missed .ensures))
 
 pub translate-into-spec : {M : Type 1} → statement M
 translate-into-spec =

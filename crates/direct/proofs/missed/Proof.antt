@@ -1,8 +1,8 @@
 -- The walk's answer is written.
-use Rattle.paging.proofs.Walking.{recorded}
+use Rattle.direct.proofs.Serving.{recorded}
 use borrow.Author.Needs.{needs}
-use Rattle.paging.proofs.missed.Statement.{statement}
-use Rattle.paging.proofs.missed.Tie as tie
+use Rattle.direct.proofs.missed.Statement.{statement}
+use Rattle.direct.proofs.missed.Tie as tie
 
 walked-requires : tie.Need-walked-requires
 walked-requires c κs = search needs

@@ -1,8 +1,9 @@
 -- One's own and allowed, or not.
-use Rattle.paging.proofs.Serving.{datum-fits, datum-in, length-pos, length-low, another, barred, allowed}
+use Rattle.paging.proofs.Holding.{datum-fits, datum-in, length-pos, length-low}
+use Rattle.direct.proofs.Serving.{another, barred, allowed}
 use borrow.Author.Needs.{needs}
-use Rattle.paging.proofs.serve.Statement.{statement}
-use Rattle.paging.proofs.serve.Tie as tie
+use Rattle.direct.proofs.serve.Statement.{statement}
+use Rattle.direct.proofs.serve.Tie as tie
 
 pcid-of-requires : tie.Need-pcid-of-requires
 pcid-of-requires c κs = search needs
