@@ -52,9 +52,13 @@ static uint64_t odd_word(struct random *random)
     return random_percent(random, 50) ? random_word(random) : random_below(random, 70);
 }
 
+/* Now and then one that only by its low bits is a kind. */
 static uint64_t random_kind(struct random *random)
 {
-    return random_percent(random, 3) ? odd_word(random) : random_below(random, 6);
+    uint64_t kind = random_below(random, 6);
+    if (random_percent(random, 1))
+        return kind | UINT64_C(1) << (3 + random_below(random, 61));
+    return random_percent(random, 3) ? odd_word(random) : kind;
 }
 
 /* Mostly few pairs, and often as many as are a limit. The answers are for each whole pair, or twice as long as the pairs, which
