@@ -22,24 +22,24 @@ use Rattle.records.specs.Record.{Holds, Recorded}
 use Rattle.paging.specs.Paged.{missed}
 use Rattle.translator.specs.Contract.{Translates}
 use Rattle.translator.proofs.Translating.{refuses-it, Accepts, usable, whole, known, flat, goes-on}
-use Rattle.direct.specs.Steps.{Lent, Serves, Writes}
-use Rattle.direct.specs.Contract.{TranslatesInto, Answers}
+use Rattle.direct.specs.Writing.{Lent, Serves, Writes}
+use Rattle.direct.specs.Contract.{TranslatesInto, IntoRecord}
 use Rattle.direct.proofs.Serving.{first-serves, nothing-first}
 
 -- ---- through the door: the answer bytes have the wrong length, or the answer is written
 pub turned-away : (q : Request) (r b : List ℕ) (mem : Memory) → (length r ≡ 32 → ⊥) → TranslatesInto q r r b b mem mem 1
 turned-away q r b mem wrong = record { left = sym (door-refused r b mem q wrong) }
 
-pub through : (q : Request) (r r′ b b′ : List ℕ) (mem mem′ : Memory) (n : ℕ) → length r ≡ 32 → Answers q r′ b b′ mem mem′ n → TranslatesInto q r r′ b b′ mem mem′ n
+pub through : (q : Request) (r r′ b b′ : List ℕ) (mem mem′ : Memory) (n : ℕ) → length r ≡ 32 → IntoRecord q r′ b b′ mem mem′ n → TranslatesInto q r r′ b b′ mem mem′ n
 through q r r′ b b′ mem mem′ n right h = record { left = h .left ∙ sym (door-written r b mem q right) }
 
 writes-it : (q : Request) (r′ b b′ : List ℕ) (mem mem′ : Memory) (a : Answer) (n : ℕ) → Translates q b b′ mem mem′ a → Recorded a r′ n
-    → Answers q r′ b b′ mem mem′ n
+    → IntoRecord q r′ b b′ mem mem′ n
 writes-it q r′ b b′ mem mem′ a n t d =
     record { left = (λ j. record { number = d .number j; answer = d .words .bytes j; image = b′; memory = mem′ }) ∙ ap written (t .outcome) }
 
 pub writes-refusal : (b : List ℕ) (mem : Memory) (k a n : ℕ) → n ≡ refusal b mem (translate k a) → (n ≡ 0 → ⊥) → (r′ : List ℕ) (m : ℕ)
-    → Recorded (Refused n) r′ m → Answers (translate k a) r′ b b mem mem m
+    → Recorded (Refused n) r′ m → IntoRecord (translate k a) r′ b b mem mem m
 writes-refusal b mem k a n h some r′ m d = writes-it _ r′ b b mem mem (Refused n) m (refuses-it b mem k a n h some) d
 
 -- the slot of a small page that is held
@@ -52,20 +52,20 @@ module _ (b : List ℕ) (mem : Memory) (k a : ℕ) (x : Accepts b mem k a) where
   lent r room = record { usable = usable b mem k a x; room = room; whole = whole b mem k a x; known = known b mem k a x }
 
   pub writes-flat : pg (decode b .flags) ≡ false → (r′ : List ℕ) → Holds (record { kind = 0; value = a; size = 0; read = 0 }) r′
-      → Answers (translate k a) r′ b b mem mem 0
+      → IntoRecord (translate k a) r′ b b mem mem 0
   writes-flat off r′ h = writes-it _ r′ b b mem mem (Address a 0 0) 0 (flat b mem k a x off) (record { words = h; number = refl })
 
   module _ (on : pg (decode b .flags) ≡ true) where
     pub writes-looked : (r′ b′ : List ℕ) (mem′ : Memory) (m : ℕ) → Writes (looked (decode b) mem (accessOf k) a (find (decode b) a)) r′ b′ mem′ m
-        → Answers (translate k a) r′ b b′ mem mem′ m
+        → IntoRecord (translate k a) r′ b b′ mem mem′ m
     writes-looked r′ b′ mem′ m h =
         writes-it _ r′ b b′ mem mem′ _ m (goes-on b mem k a x on b′ mem′ _ (record { answer = refl; image = h .image; memory = h .memory })) (h .answer)
 
     pub writes-small : (s : Start) → Begins b a s → (at : ℕ) (r r′ : List ℕ) (v : Bool) → Serves b at 4096 (accessOf k) a r r′ v → v ≡ true → s ≡ Small at
-        → Answers (translate k a) r′ b b mem mem 0
+        → IntoRecord (translate k a) r′ b b mem mem 0
     writes-small s begins at r r′ v h t f =
         writes-looked r′ b mem 0 (first-serves b r r′ mem at 4096 k a v (usable b mem k a x) h (begins-small b a s begins at f) t)
 
     pub writes-walk : (s : Start) → Begins b a s → s ≡ Absent → (r′ b′ : List ℕ) (mem′ : Memory) (m : ℕ)
-        → Writes (missed (decode b) mem (accessOf k) a) r′ b′ mem′ m → Answers (translate k a) r′ b b′ mem mem′ m
+        → Writes (missed (decode b) mem (accessOf k) a) r′ b′ mem′ m → IntoRecord (translate k a) r′ b b′ mem mem′ m
     writes-walk s begins f r′ b′ mem′ m h = writes-looked r′ b′ mem′ m (nothing-first b b′ r′ mem mem′ k a m Nowhere (begins-absent b a s begins f) refl h)

@@ -27,7 +27,7 @@ use Rattle.paging.specs.declared.Held.{Held}
 use Rattle.paging.specs.declared.Held.the-variants.{Page, Nothing}
 use Rattle.paging.specs.Paged.{Usable, missed, Encodes, Finds}
 use Rattle.paging.proofs.Holding.{slot-datum, slot-address, first-looked, none-looked, still-usable}
-use Rattle.direct.specs.Steps.{Lent, Serves, Writes}
+use Rattle.direct.specs.Writing.{Lent, Serves, Writes}
 
 pub held-right : (b : List ℕ) (a at l : ℕ) (is : List ℕ) (o : Place) → FirstHeld b a is o → o ≡ At at l → Right (At at l)
 held-right b a at l is o held e = subst Right e (held .right)

@@ -10,5 +10,5 @@ pub record TranslatesInto (q : Request) (r r′ b b′ : List ℕ) (mem mem′ :
   pub left : _≡_ {A = Left} (record { number = n; answer = r′; image = b′; memory = mem′ }) (door r b mem q)
 
 -- the same where there is room for a record
-pub record Answers (q : Request) (r′ b b′ : List ℕ) (mem mem′ : Memory) (n : ℕ) : Type 0 where
+pub record IntoRecord (q : Request) (r′ b b′ : List ℕ) (mem mem′ : Memory) (n : ℕ) : Type 0 where
   pub left : _≡_ {A = Left} (record { number = n; answer = r′; image = b′; memory = mem′ }) (written (call b mem q))

@@ -12,7 +12,7 @@ ghost use Rattle.rules.specs.Sizes.{small, middle, ways};
 ghost use Rattle.buffer.specs.Look.{Right, FirstHeld};
 ghost use Rattle.buffer.specs.declared.look.Place.the-variants.{At, Nowhere};
 ghost use Rattle.paging.specs.Paged.{missed as missedOf};
-ghost use Rattle.direct.specs.Steps.{Lent, Writes, Serves};
+ghost use Rattle.direct.specs.Writing.{Lent, Writes, Serves};
 ghost use Rattle.direct.specs.Contract.{TranslatesInto};
 use buffer::look;
 use buffer::look::Place;

@@ -20,7 +20,7 @@ use Rattle.rules.proofs.BoolLaws.{or-right}
 use Rattle.rules.proofs.FitLaws.{fit-stays, flags-stay, memory-stays}
 use Rattle.rules.proofs.ManyLaws.{one-pair, record-long}
 use Rattle.refusals.specs.Asked.{Asked}
-use Rattle.direct.specs.Contract.{Answers}
+use Rattle.direct.specs.Contract.{IntoRecord}
 use Rattle.many.specs.Contract.{TranslatesMany}
 
 -- ---- whether they are taken
@@ -82,7 +82,7 @@ in-order r r′ m = ap (λ (y : List ℕ). record { records = y; image = m .imag
 
 module _ (ps rs₀ b₀ : List ℕ) (mem₀ : Memory) (u : Bool) (x : ℕ) (p : Bool) (n : ℕ) (rs b : List ℕ) (mem : Memory) (i : ℕ) (d : Done ps rs₀ b₀ mem₀ u x p n rs b mem i) where
   pub done-more : (k a : ℕ) (r b′ : List ℕ) (mem′ : Memory) (m : ℕ) → i < n → k ≡ wordAt ps (i * 16) → a ≡ wordAt ps (i * 16 + 8)
-      → Answers (translate k a) r b b′ mem mem′ m → length b′ ≡ length b → AreBytes b′
+      → IntoRecord (translate k a) r b b′ mem mem′ m → length b′ ≡ length b → AreBytes b′
       → Done ps rs₀ b₀ mem₀ u x p n (take (i * 32) rs ++ (r ++ drop (i * 32 + 32 - i * 32) (drop (i * 32) rs))) b′ mem′ (i + 1)
   done-more k a r b′ mem′ m h hk ha w long bytes =
       let q : _≡_ {A = Left} (record { number = m; answer = r; image = b′; memory = mem′ }) (written (call b mem (asks (pairAt ps i)))) =

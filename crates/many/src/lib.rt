@@ -4,7 +4,7 @@ ghost use lib.ListN.{length};
 ghost use Rattle.rules.specs.Refusals.{translate};
 ghost use Rattle.rules.specs.Many.{noPairs};
 ghost use Rattle.refusals.specs.Asked.{Asked};
-ghost use Rattle.direct.specs.Contract.{Answers};
+ghost use Rattle.direct.specs.Contract.{IntoRecord};
 ghost use Rattle.many.specs.Contract.{TranslatesMany};
 use buffer::look;
 use buffer::look::Start;
@@ -37,7 +37,7 @@ fn pair(
     a: u64,
 ) -> u64
     requires { ⌜ (length (now answer) ≡ 32) × Asked (now image) (now mem) unfit beyond paged ⌝ }
-    ensures { λ r. ⌜ Answers (translate kind a) (now (answer .exit)) (now (image .entry)) (now (image .exit)) (now (mem .entry)) (now (mem .exit)) r ⌝ }
+    ensures { λ r. ⌜ IntoRecord (translate kind a) (now (answer .exit)) (now (image .entry)) (now (image .exit)) (now (mem .entry)) (now (mem .exit)) r ⌝ }
 {
     let number = refusals::translate_refusal(unfit, beyond, paged, kind, a);
     if number != 0 {
