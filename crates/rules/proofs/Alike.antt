@@ -3,21 +3,21 @@
 -- So the walk is blind to bits 5 and 6, but for the page's dirty flag; and walking leaves every entry as it was but for those bits.
 use Prim.Native.Nat.{ℕ, zero, suc, _+_, _-_, _/_, _%_, _^_, _≤_, _<_}
 use mathlib.Core.Path.{_≡_, refl, ap, sym, _∙_, subst}
-use mathlib.Core.Bool.{not}
 use mathlib.Core.List.{List, [], _∷_}
 use native.Mathlib.Omega.{arith}
 use lib.Dec.{eqb}
 use lib.Pow.{field, mod-mod-pow}
-use Rattle.rules.specs.Bits.{isOn, part, anyOn}
+use Rattle.rules.specs.Bits.{isOn, part}
 use Rattle.rules.specs.Sizes.{shift, Is, pageNumber}
 use Rattle.rules.specs.Image.{nxe}
-use Rattle.rules.specs.Entries.{Entry, absent, bad, page, table, says, next, also}
+use Rattle.rules.specs.Entries.{Entry, absent, bad, page, table, isPage, says, next, also}
 use Rattle.rules.specs.Walk.{index, place, Leaf, End, reached, stuck, Reach, step, reach}
 use Rattle.rules.specs.declared.Size.{Size}
 use Rattle.rules.specs.declared.Control.{Control}
 use Rattle.rules.specs.declared.Rights.{Rights}
 use Rattle.rules.proofs.BitLaws.{bit-low, bit-high, part-high, above}
 use Rattle.rules.proofs.SizeLaws.{length-is}
+use Rattle.rules.proofs.FormatLaws.{reserved-high}
 use Rattle.rules.proofs.WalkLaws.{endLevel, end-low}
 
 -- ---- what a relation on entries, and one on rights, has to keep
@@ -130,12 +130,8 @@ module _ (x y : ℕ) (h : ButMarks x y) where
   on-high : (k : ℕ) → 7 ≤ k → isOn k x ≡ isOn k y
   on-high k g = ap (λ (b : ℕ). eqb b 1) (bit-high 7 k x y g (h .high))
 
-  any-high : (hi l : ℕ) → 7 ≤ l → anyOn hi l x ≡ anyOn hi l y
-  any-high hi l g = ap (λ (n : ℕ). not (eqb n 0)) (part-high 7 hi l x y g (h .high))
-
   says-marks : (c : Control) (level : ℕ) → 7 ≤ c .width → says c level x ≡ says c level y
-  says-marks c level g =
-      rw (on-low 0 (omega arith), on-high 7 (omega arith), any-high 52 (c .width) g, on-high 63 (omega arith), any-high _ 13 (omega arith))
+  says-marks c level g = rw (on-low 0 (omega arith), on-high 7 (omega arith), reserved-high c level (isPage level y) x y g (h .high))
 
   also-marks : (r : Rights) → also r x ≡ also r y
   also-marks r = rw (on-low 1 (omega arith), on-low 2 (omega arith), on-high 63 (omega arith))

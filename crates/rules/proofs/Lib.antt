@@ -4,6 +4,7 @@ pub mod WordLaws
 pub mod SizeLaws
 pub mod ImageLaws
 pub mod MemoryLaws
+pub mod FormatLaws
 pub mod WalkLaws
 pub mod Alike
 pub mod Grown

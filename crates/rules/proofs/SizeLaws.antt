@@ -1,6 +1,6 @@
 -- What holds of the three page sizes, which slots are an address's own, and a slot's two words read back.
 -- A size is one of three, so a law of sizes is three sums; a word is a sum of parts that do not overlap, so each part is read back by dividing.
-use Prim.Native.Nat.{ℕ, zero, suc, _+_, _-_, _*_, _/_, _%_, _^_, _≤_, _<_, max}
+use Prim.Native.Nat.{ℕ, zero, suc, _+_, _-_, _*_, _/_, _%_, _^_, _≤_, _<_}
 use mathlib.Core.Path.{_≡_, refl}
 use mathlib.Core.Bool.{Bool, true}
 use mathlib.Core.List.{List·Memᴰ, List·Memᴰ·head, List·Memᴰ·tail, Memᴰ·append-left, Memᴰ·append-right}
@@ -45,11 +45,6 @@ pub length-is : (z : Size) → Is z → z .length ≡ 2 ^ shift (z .level)
 length-is z is-small = refl
 length-is z is-middle = refl
 length-is z is-large = refl
-
-pub reserved-is : (z : Size) → Is z → z .reserved ≡ max 13 (shift (z .level))
-reserved-is z is-small = refl
-reserved-is z is-middle = refl
-reserved-is z is-large = refl
 
 pub set-small : (z : Size) (n : ℕ) → Is z → z .first + n % z .sets < 25
 set-small z n is-small = omega arith

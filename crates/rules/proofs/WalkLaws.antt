@@ -1,13 +1,11 @@
 -- What holds of every walk, by one induction over the level: the count is the number of addresses read; where a walk ends, what it finds and what it writes.
 use Prim.Native.Nat.{ℕ, zero, suc, _+_, _-_, _%_, _^_, _≤_, _<_}
 use mathlib.Core.Path.{_≡_, refl, ap, _∙_, subst}
-use mathlib.Core.Bool.{Bool, true, false, cond, _&&_, _||_}
+use mathlib.Core.Bool.{Bool, true, false, cond, _||_}
 use mathlib.Core.List.{List}
 use native.Mathlib.Omega.{arith}
 use native.Mathlib.Numerals.{one-add}
 use lib.ListN.{length}
-use lib.Dec.{eqb, leb}
-use borrow.Author.Tests.{eqb-true, leb-true}
 use Rattle.rules.specs.Bits.{isOn, part}
 use Rattle.rules.specs.Sizes.{shift}
 use Rattle.rules.specs.Memory.{Memory, entryAt}
@@ -21,6 +19,7 @@ use Rattle.rules.specs.declared.Cause.the-variants.{Protection}
 use Rattle.rules.specs.declared.Found.{Found}
 use Rattle.rules.specs.declared.Found.the-variants.{Page, Fault}
 use Rattle.rules.proofs.SizeLaws.{base-low, base-lt}
+use Rattle.rules.proofs.FormatLaws.{page-low}
 
 -- ---- induction over the level, once for all laws: a property of the levels left and the walk from there holds of every walk, if it holds where
 -- no level is left and each step hands it on, whatever its entry says
@@ -86,12 +85,7 @@ page-is true false true h = refl
 page-is true false false h = let z : _≡_ {A = ℕ} 0 1 = cc in absurd (omega arith)
 
 pub page-level : (c : Control) (level e : ℕ) → says c level e ≡ page → level ≤ 3
-page-level c level e h = go (eqb level 1) (leb level 3) (isOn 7 e) refl refl (page-is (isOn 0 e) (isReserved c level (isPage level e) e) (isPage level e) h)
-  where
-    go : (x y b : Bool) → eqb level 1 ≡ x → leb level 3 ≡ y → (x || (y && b)) ≡ true → level ≤ 3
-    go true y b ex ey g = omega (arith, eqb-true level 1 ex)
-    go false true b ex ey g = leb-true level 3 ey
-    go false false b ex ey g = let z : _≡_ {A = ℕ} 0 1 = cc in absurd (omega arith)
+page-level c level e h = page-low level e (page-is (isOn 0 e) (isReserved c level (isPage level e) e) (isPage level e) h)
 
 -- ---- where a walk ends
 abbrev pub endLevel : End → ℕ

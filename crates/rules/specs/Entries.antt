@@ -2,9 +2,9 @@
 use Prim.Native.Nat.{ℕ}
 use mathlib.Core.Bool.{Bool, true, false, _&&_, _||_, not}
 use lib.Dec.{leb, eqb}
-use Rattle.rules.specs.Bits.{isOn, part, anyOn}
-use Rattle.rules.specs.Sizes.{sizeAt}
+use Rattle.rules.specs.Bits.{isOn, part}
 use Rattle.rules.specs.Image.{wp, nxe}
+use Rattle.rules.specs.Formats.{rows, rangesOf, anyIn}
 use Rattle.rules.specs.declared.Control.{Control}
 use Rattle.rules.specs.declared.Access.{Access}
 use Rattle.rules.specs.declared.Rights.{Rights}
@@ -13,14 +13,9 @@ use Rattle.rules.specs.declared.Rights.{Rights}
 abbrev pub isPage : ℕ → ℕ → Bool
 isPage level e = eqb level 1 || (leb level 3 && isOn 7 e)
 
--- a bit is set that must be 0: an address bit beyond the width; the top bit, while NXE gives it no meaning; the page bit at the top level; in a
--- page's entry, a bit that its size leaves unused
+-- a bit of one of its row's ranges is set
 abbrev pub isReserved : Control → ℕ → Bool → ℕ → Bool
-isReserved c level page e =
-    anyOn 52 (c .width) e
-    || (not (nxe (c .flags)) && isOn 63 e)
-    || (eqb level 4 && isOn 7 e)
-    || (page && anyOn (sizeAt level .reserved) 13 e)
+isReserved c level page e = anyIn (rangesOf (rows (c .width) (nxe (c .flags))) level page) e
 
 -- what an entry says: nothing is mapped; it is malformed; here is the page; here is the next table
 pub data Entry : Type 0 where

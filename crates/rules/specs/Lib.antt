@@ -2,6 +2,7 @@ pub mod Bits
 pub mod Sizes
 pub mod Image
 pub mod Memory
+pub mod Formats
 pub mod Entries
 pub mod Walk
 pub mod Buffer

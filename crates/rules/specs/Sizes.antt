@@ -10,7 +10,7 @@ abbrev pub shift : ℕ → ℕ
 shift level = 3 + 9 * level
 
 -- 4 KiB pages have the first 16 sets, 2 MiB pages the next 8, 1 GiB pages the last one. A large page's base leaves its low bits unused: from bit 13
--- up to the page's length they must be 0
+-- up to the page's length they must be 0, as the row of such a page has it (`Formats`)
 abbrev pub small : Size
 small = record { level = 1; length = 0x1000; reserved = 13; sets = 16; first = 0 }
 

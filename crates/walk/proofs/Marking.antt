@@ -2,30 +2,30 @@
 -- marks above it do not lead it elsewhere (`Grown`).
 use Prim.Native.Nat.{ℕ, _+_, _-_, _*_, _/_, _%_, _^_, _≤_, _<_}
 use mathlib.Core.Path.{_≡_, refl, ap, sym, _∙_, subst}
-use mathlib.Core.Bool.{Bool, true, false, _&&_, _||_}
+use mathlib.Core.Bool.{Bool, true, false}
 use mathlib.Core.List.{List, [], _∷_}
 use native.Mathlib.Omega.{arith}
 use native.Mathlib.Nat.{add-zero}
 use native.Mathlib.Decide.{decLt, ℕ-discrete}
 use lib.ListN.{length, getD, set}
-use lib.Dec.{eqb}
 use lib.Seq.{set-set, getD-set-same}
 use lib.Bits.{bitAnd, bitOr, and-zero-r, or-add-and}
 use Rattle.rules.specs.Bits.{isOn, withBit, part, one}
 use Rattle.rules.specs.Memory.{Memory, entryAt, added}
-use Rattle.rules.specs.Entries.{Entry, absent, bad, page, table, sorted, says, isPage, isReserved, next, also}
+use Rattle.rules.specs.Entries.{Entry, absent, bad, page, table, sorted, says, isPage, next, also}
 use Rattle.rules.specs.Walk.{place, Leaf, End, reached, stuck, Reach, step, reach, accessed, dirtied}
 use Rattle.rules.specs.declared.Control.{Control}
 use Rattle.rules.specs.declared.Rights.{Rights}
 use Rattle.rules.specs.declared.Cause.{Cause}
 use Rattle.rules.proofs.BoolLaws.{or-left}
 use Rattle.rules.proofs.BitLaws.{part-high, set-other, one-le, on-one}
+use Rattle.rules.proofs.FormatLaws.{isWide, says-by-size}
 use Rattle.rules.proofs.MemoryLaws.{added-outside, added-order}
 use Rattle.rules.proofs.Grown.{grown-added}
 use Rattle.rules.proofs.WalkLaws.{reach-step, endLevel, end-low, last-table}
 use Rattle.words.proofs.Masks.{and-flag}
 use Rattle.walk.specs.Packed.{slid, bitsOf, markedAt, LeadsAlike, MarkedDown}
-use Rattle.walk.proofs.Masks.{Wide, cut}
+use Rattle.walk.proofs.Masks.{cut}
 use Rattle.walk.proofs.Steps.{slid-index, slid-next, narrow}
 
 -- ---- a byte and its marks
@@ -119,10 +119,10 @@ not-reserved false b l h = let z : _≡_ {A = ℕ} 0 1 = cc in absurd (omega ari
 not-reserved true true l h = let z : _≡_ {A = ℕ} 0 1 = cc in absurd (omega arith)
 not-reserved true false l h = refl
 
-leads-on : (c : Control) (level e : ℕ) → 36 ≤ c .width → c .width ≤ 52 → says c level e ≡ table → part 52 12 e ≡ next c e
-leads-on c level e w n h =
-    let b : isReserved c level (isPage level e) e ≡ false = not-reserved (isOn 0 e) _ (isPage level e) h in
-    cut (c .width) 12 e n (omega arith) (narrow c e (or-left (Wide c e) _ (or-left (Wide c e || (eqb level 4 && isOn 7 e)) _ b)))
+leads-on : (c : Control) (level e : ℕ) → 36 ≤ c .width → c .width ≤ 52 → 0 < level → level ≤ 4 → says c level e ≡ table → part 52 12 e ≡ next c e
+leads-on c level e w n pos high h =
+    let b : isWide c e ≡ false = or-left (isWide c e) _ (not-reserved (isOn 0 e) _ (isPage level e) (sym (says-by-size c level e pos high) ∙ h)) in
+    cut (c .width) 12 e n (omega arith) (narrow c e b)
 
 -- ---- marks in one order or another
 accessed-later : (path : List ℕ) (at : ℕ) (mem : Memory) → accessed path (added 5 at mem) ≡ added 5 at (accessed path mem)
@@ -161,7 +161,7 @@ module _ (mem : Memory) (x level base last bits at : ℕ) (stands : at ≡ base 
               let pos : 0 < level = some-level rd c a level base r p ends in
               let hat : place level base a ≡ at = sym (stands-at a high hx) in
               let to : next-base ≡ next c (rd at) =
-              leads ∙ ap (part 52 12) reads ∙ sym (alike at eight) ∙ leads-on c level (rd at) wide narrow (rw hat at is-table) in
+              leads ∙ ap (part 52 12) reads ∙ sym (alike at eight) ∙ leads-on c level (rd at) wide narrow pos high (rw hat at is-table) in
               let from : MarkedDown mem₁ mem₂ (x * 2 ^ 9 % 2 ^ 64) (level - 1) (next c (rd at)) last bits =
               subst (λ (b : ℕ). MarkedDown mem₁ mem₂ (x * 2 ^ 9 % 2 ^ 64) (level - 1) b last bits) to d in
               let way : List ℕ = reach rd c a (level - 1) (next c (rd at)) (also r (rd at)) .path in

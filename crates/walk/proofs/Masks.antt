@@ -9,13 +9,15 @@ use lib.Dec.{eqb}
 use lib.Pow.{field, mod-pow-add, high-ones, pow-mono}
 use lib.Bits.{bitAnd, bitOr, bitXor, and-mask, xor-shr, xor-mod, xor-zero-r}
 use borrow.Author.Tests.{ne-eqb}
-use Rattle.rules.specs.Bits.{isOn, part, anyOn, one}
+use Rattle.rules.specs.Bits.{isOn, part, one}
 use Rattle.rules.specs.Image.{nxe}
 use Rattle.rules.specs.Entries.{also}
 use Rattle.rules.specs.declared.Control.{Control}
 use Rattle.rules.proofs.BoolLaws.{same}
 use Rattle.rules.proofs.BitLaws.{bit-high, part-high, one-le, on-one}
+use Rattle.rules.proofs.FormatLaws.{isWide}
 use Rattle.words.proofs.Masks.{and-one, and-split, and-below, and-flag, or-on}
+use Rattle.formats.proofs.Laws.{wide-sum}
 use Rattle.walk.specs.Packed.{turned, rightsOf, accessedIn, badOf}
 
 pub not-not : (b : Bool) → not (not b) ≡ b
@@ -28,7 +30,7 @@ turn-over k e h =
     rw (xor-shr e 0x67 k, xor-mod (e / 2 ^ k) (0x67 / 2 ^ k) 1, h)
     (ap (λ (p : ℕ). eqb (bitXor p 1) 1) (on-one k e) ∙ same 1 (λ p. eqb (bitXor (one p) 1) 1) not refl (isOn k e))
 
-turn-high : (e : ℕ) → turned e / 2 ^ 7 ≡ e / 2 ^ 7
+pub turn-high : (e : ℕ) → turned e / 2 ^ 7 ≡ e / 2 ^ 7
 turn-high e = xor-shr e 0x67 7 ∙ xor-zero-r (e / 2 ^ 7)
 
 pub turn-on : (k e : ℕ) → 7 ≤ k → isOn k (turned e) ≡ isOn k e
@@ -50,10 +52,7 @@ rights-or s e =
 pub accessed-or : (s e : ℕ) → accessedIn (bitOr s (turned e)) ≡ (accessedIn s && isOn 5 e)
 accessed-or s e = has 5 s e refl
 
--- ---- the bits that bar the way: those that are reserved at every level, bit 0, and where it is asked for bit 7
-abbrev pub Wide : Control → ℕ → Bool
-Wide c e = anyOn 52 (c .width) e || (not (nxe (c .flags)) && isOn 63 e)
-
+-- ---- the bits that bar the way: those that every row has, bit 0, and where it is asked for bit 7
 zero-test : (b f p : Bool) (w : ℕ) → eqb (one b * 2 ^ 63 + (w + (one f * 128 + one p))) 0 ≡ (not p && not f && not (not (eqb w 0) || b))
 zero-test true f p w =
     ne-eqb _ _ (λ (q : one true * 2 ^ 63 + (w + (one f * 128 + one p)) ≡ 0). omega arith)
@@ -80,11 +79,11 @@ module _ (c : Control) (e : ℕ) (wide : 36 ≤ c .width) (narrow : c .width ≤
   low-and : (t : ℕ) (f : Bool) → bitAnd t (one f * 128 + 1) ≡ one (f && isOn 7 t) * 128 + one (isOn 0 t)
   low-and t f = rw (and-flag 7 t 1 (omega arith) f, and-one t true, div-one t)
 
-  pub bar-test : (f : Bool) → eqb (bitAnd (turned e) (badOf c + (one f * 128 + 1))) 0 ≡ (isOn 0 e && not (f && isOn 7 e) && not (Wide c e))
+  pub bar-test : (f : Bool) → eqb (bitAnd (turned e) (badOf c + (one f * 128 + 1))) 0 ≡ (isOn 0 e && not (f && isOn 7 e) && not (isWide c e))
   bar-test f =
       let b : Bool = not (nxe (c .flags)) in
       let low : ℕ = one f * 128 + 1 in
-      let s : badOf c + low ≡ one b * 2 ^ 63 + (2 ^ 52 - 2 ^ w + low) = add-assoc _ _ _ in
+      let s : badOf c + low ≡ one b * 2 ^ 63 + (2 ^ 52 - 2 ^ w + low) = ap (λ (n : ℕ). n + low) (wide-sum w (nxe (c .flags))) ∙ add-assoc _ _ _ in
       rw (
         s,
         and-flag 63 (turned e) (2 ^ 52 - 2 ^ w + low) (omega (arith, one-le f)) b,

@@ -1,27 +1,27 @@
 -- One step of the code is one step of the rules' walk, whatever control and address its numbers stand for: a law for each way out of it.
 use Prim.Native.Nat.{ℕ, _+_, _-_, _*_, _/_, _%_, _^_, _≤_, _<_}
 use mathlib.Core.Path.{_≡_, refl, ap, sym, _∙_}
-use mathlib.Core.Bool.{Bool, true, false, cond, _&&_, _||_, not, and-false, or-true, and-true, and-assoc}
+use mathlib.Core.Bool.{Bool, true, false, cond, _&&_, _||_, not, true≢false, and-false, or-true, and-true, and-assoc}
 use native.Mathlib.Omega.{arith}
 use native.Mathlib.Nat.{mul-assoc, add-zero}
 use native.Mathlib.Decide.{ℕ-discrete}
-use lib.Dec.{eqb, leb}
+use lib.Dec.{eqb, leb, ltb}
 use lib.Pow.{field, shr-shr, shl-shr, pow-add}
 use lib.Bits.{bitAnd, bitOr}
-use borrow.Author.Tests.{eq-eqb, ne-eqb, le-leb, eqb-true, eqb-false, not-true, not-false}
+use borrow.Author.Tests.{eq-eqb, ne-eqb, le-leb, lt-ltb, eqb-true, not-true, not-false}
 use Rattle.rules.specs.Bits.{isOn, part, anyOn, one}
 use Rattle.rules.specs.Sizes.{shift, sizeAt}
 use Rattle.rules.specs.Memory.{Memory, entryAt}
-use Rattle.rules.specs.Entries.{bad, page, table, sorted, says, next}
+use Rattle.rules.specs.Entries.{bad, page, table, isPage, sorted, says, next}
 use Rattle.rules.specs.Walk.{index, place, leafOf, reached, stuck, Reach, step, reach}
 use Rattle.rules.specs.declared.Control.{Control}
 use Rattle.rules.specs.declared.Cause.the-variants.{NotPresent, Reserved}
 use Rattle.rules.proofs.BoolLaws.{or-left, and-left, and-right}
 use Rattle.rules.proofs.BitLaws.{part-lt}
-use Rattle.rules.proofs.SizeLaws.{size-at, level-at, reserved-is}
+use Rattle.rules.proofs.FormatLaws.{isWide, isOwn, widest, own-bits, says-by-size, reserved-high}
 use Rattle.rules.proofs.WalkLaws.{reach-step}
 use Rattle.walk.specs.Packed.{turned, rightsOf, accessedIn, badOf, Bars, slid, packPage, packEnd, packReach, allAccessed, isReservedPage, Stops, EndsAt, Ended, Down}
-use Rattle.walk.proofs.Masks.{not-not, turn-over, turn-on, turn-part, rights-or, accessed-or, Wide, bar-test, cut}
+use Rattle.walk.proofs.Masks.{not-not, turn-over, turn-high, turn-on, turn-part, rights-or, accessed-or, bar-test, cut}
 
 -- ---- the address slides by nine bits a level, so that the index of each is on top
 pub slid-index : (level a : ℕ) → level ≤ 4 → slid level a / 2 ^ 55 ≡ index level a
@@ -42,36 +42,44 @@ slid-next level a hp h =
     drop-mod : (n : ℕ) → n % 2 ^ 64 * 2 ^ 9 % 2 ^ 64 ≡ n * 2 ^ 9 % 2 ^ 64
     drop-mod n = omega arith
 
--- ---- what an entry says, from the tests: one that is present and has no bit reserved at every level is a table, unless it ends the walk; then it is the
+-- ---- what an entry says, from the tests: one that is present and has no bit that every row has is a table, unless it ends the walk; then it is the
 -- page, unless a bit is reserved in a page's entry
 leaf-kind : (u : Bool) → sorted true u true ≡ cond u bad page
 leaf-kind true = refl
 leaf-kind false = refl
 
--- a page's unused bits, by the level
-unused : (level e : ℕ) → 0 < level → level ≤ 4 → eqb level 4 ≡ false → anyOn (sizeAt level .reserved) 13 e ≡ anyOn (shift level) 13 e
-unused level e h g n =
-    let l : level ≤ 3 = omega (arith, eqb-false level 4 n) in
-    let d : sizeAt level .reserved - 13 ≡ shift level - 13 = omega (arith, reserved-is (sizeAt level) (size-at level h l), level-at level h l) in
-    ap (λ (z : ℕ). not (eqb (e / 2 ^ 13 % 2 ^ z * 2 ^ 13) 0)) d
+-- at level 4 the page bit is reserved
+top-bit : (e : ℕ) → isOn 7 e ≡ true → isReservedPage 4 e ≡ true
+top-bit e b = own-bits 4 false e (omega arith, omega arith) ∙ rw b
+
+below-top : (level e : ℕ) → level ≤ 4 → (eqb level 1 || isOn 7 e) ≡ true → isReservedPage level e ≡ false → level ≤ 3
+below-top level e high t f = go (ℕ-discrete level 4)
+  where
+    go : Dec (level ≡ 4) → level ≤ 3
+    go (yes q) =
+        let b : isOn 7 e ≡ true = rw q at t in
+        absurd (true≢false (sym (top-bit e b) ∙ rw q at f))
+    go (no n) = omega arith
 
 module _ (c : Control) (level e : ℕ) (pos : 0 < level) (high : level ≤ 4) (present : isOn 0 e ≡ true) where
-  says-wide : Wide c e ≡ true → says c level e ≡ bad
-  says-wide w = rw (present, w)
+  says-wide : isWide c e ≡ true → says c level e ≡ bad
+  says-wide w = says-by-size c level e pos high ∙ rw (present, w)
 
-  says-end : Wide c e ≡ false → (eqb level 1 || isOn 7 e) ≡ true → says c level e ≡ cond (isReservedPage level e) bad page
-  says-end w t = go (ℕ-discrete level 4)
+  says-end : isWide c e ≡ false → (eqb level 1 || isOn 7 e) ≡ true → says c level e ≡ cond (isReservedPage level e) bad page
+  says-end w t = says-by-size c level e pos high ∙ go (ℕ-discrete level 4)
     where
-      go : Dec (level ≡ 4) → says c level e ≡ cond (isReservedPage level e) bad page
+      go : Dec (level ≡ 4)
+          → sorted (isOn 0 e) (isWide c e || isOwn level (isPage level e) e) (isPage level e) ≡ cond (isReservedPage level e) bad page
       go (yes q) =
           let b : isOn 7 e ≡ true = rw q at t in
-          rw (present, w, q, b)
+          rw (q, present, w, top-bit e b, b)
       go (no n) =
-          let f : eqb level 4 ≡ false = ne-eqb level 4 n in
-          rw (present, w, f, le-leb level 3 (omega arith), t, unused level e pos high f) (leaf-kind (anyOn (shift level) 13 e))
+          let l : level ≤ 3 = omega arith in
+          rw (lt-ltb level 4 (omega arith), own-bits level true e (pos, l), present, w, ne-eqb level 4 n, le-leb level 3 l, t)
+          (leaf-kind (anyOn (sizeAt level .reserved) 13 e))
 
-  says-on : Wide c e ≡ false → (level ≡ 1 → ⊥) → isOn 7 e ≡ false → says c level e ≡ table
-  says-on w n b = rw (present, w, ne-eqb level 1 n, b, and-false (eqb level 4), and-false (leb level 3))
+  says-on : isWide c e ≡ false → (level ≡ 1 → ⊥) → isOn 7 e ≡ false → says c level e ≡ table
+  says-on w n b = says-by-size c level e pos high ∙ rw (present, w, ne-eqb level 1 n, b, and-false (eqb level 4), and-false (leb level 3))
 
 -- bit 0 of a turned entry
 absent-by : (t e : ℕ) → t ≡ turned e → isOn 0 t ≡ true → isOn 0 e ≡ false
@@ -81,23 +89,23 @@ present-by : (t e : ℕ) → t ≡ turned e → isOn 0 t ≡ false → isOn 0 e 
 present-by t e q h = not-false (isOn 0 e) (sym (ap (isOn 0) q ∙ turn-over 0 e refl) ∙ h)
 
 -- no address bit beyond the width
-pub narrow : (c : Control) (e : ℕ) → Wide c e ≡ false → part 52 (c .width) e ≡ 0
+pub narrow : (c : Control) (e : ℕ) → isWide c e ≡ false → part 52 (c .width) e ≡ 0
 narrow c e w = eqb-true (part 52 (c .width) e) 0 (not-false (eqb (part 52 (c .width) e) 0) (or-left (anyOn 52 (c .width) e) _ w))
 
 -- ---- the tests for a page, and for a table, which asks for bit 7 too
 module _ (t bars : ℕ) (c : Control) (e : ℕ) (f : Bars c bars) (q : t ≡ turned e) where
-  page-test : eqb (bitAnd t (bars - 0x80)) 0 ≡ (isOn 0 e && true && not (Wide c e))
+  page-test : eqb (bitAnd t (bars - 0x80)) 0 ≡ (isOn 0 e && true && not (isWide c e))
   page-test =
       let m : bars - 0x80 ≡ badOf c + (one false * 128 + 1) = omega (arith, f .are) in
       rw (m, q) (bar-test c e (f .wide) (f .narrow) false)
 
-  table-test : eqb (bitAnd t bars) 0 ≡ (isOn 0 e && not (isOn 7 e) && not (Wide c e))
+  table-test : eqb (bitAnd t bars) 0 ≡ (isOn 0 e && not (isOn 7 e) && not (isWide c e))
   table-test = rw (f .are, q) (bar-test c e (f .wide) (f .narrow) true)
 
 -- ---- the ways out of `end`
 module _ (t s level bars : ℕ) (pos : 0 < level) (high : level ≤ 4) (stops : Stops level t bars) where
   module _ (c : Control) (e : ℕ) (f : Bars c bars) (q : t ≡ turned e) where
-    at-end : isOn 0 e ≡ true → Wide c e ≡ false → (eqb level 1 || isOn 7 e) ≡ true
+    at-end : isOn 0 e ≡ true → isWide c e ≡ false → (eqb level 1 || isOn 7 e) ≡ true
     at-end p w = go (ℕ-discrete level 1) (isOn 7 e) refl
       where
         go : Dec (level ≡ 1) → (b : Bool) → isOn 7 e ≡ b → (eqb level 1 || b) ≡ true
@@ -105,20 +113,22 @@ module _ (t s level bars : ℕ) (pos : 0 < level) (high : level ≤ 4) (stops : 
         go (no n) true h = or-true (eqb level 1)
         go (no n) false h = absurd (stops n (eqb-true (bitAnd t bars) 0 (rw (table-test t bars c e f q, p, h, w))))
 
+    -- no row has a bit that is turned over
+    same-bits : isReservedPage level t ≡ isReservedPage level e
+    same-bits = reserved-high widest level (ltb level 4) t e (omega arith) (ap (λ (z : ℕ). z / 2 ^ 7) q ∙ turn-high e)
+
     module _ (clear : bitAnd t (bars - 0x80) ≡ 0) where
-      both : (isOn 0 e && true && not (Wide c e)) ≡ true
+      both : (isOn 0 e && true && not (isWide c e)) ≡ true
       both = sym (page-test t bars c e f q) ∙ eq-eqb _ 0 clear
 
       there : isOn 0 e ≡ true
       there = and-left (isOn 0 e) true (and-left (isOn 0 e && true) _ both)
 
-      not-wide : Wide c e ≡ false
-      not-wide = not-true (Wide c e) (and-right (isOn 0 e && true) _ both)
+      not-wide : isWide c e ≡ false
+      not-wide = not-true (isWide c e) (and-right (isOn 0 e && true) _ both)
 
       ended : says c level e ≡ cond (isReservedPage level t) bad page
-      ended =
-          says-end c level e pos high there not-wide (at-end there not-wide)
-          ∙ ap (λ (z : ℕ). cond (eqb level 4 || not (eqb z 0)) bad page) (sym (ap (part (shift level) 13) q ∙ turn-part (shift level) 13 e (omega arith)))
+      ended = says-end c level e pos high there not-wide (at-end there not-wide) ∙ ap (λ (u : Bool). cond u bad page) (sym same-bits)
 
   module _ (clear : bitAnd t (bars - 0x80) ≡ 0) (b : Bool) (test : b ≡ isReservedPage level t) where
     pub way-reserved : b ≡ true → Ended t s level bars (level * 32 + 1)
@@ -142,7 +152,7 @@ module _ (t s level bars : ℕ) (pos : 0 < level) (high : level ≤ 4) (stops : 
                       hb,
                       q,
                       turn-part 52 (3 + 9 * level) e (omega arith),
-                      cut (c .width) (3 + 9 * level) e (f .narrow) (omega (arith, f .wide, less)) (narrow c e (not-wide c e f q clear)),
+                      cut (c .width) (3 + 9 * level) e (f .narrow) (omega (arith, f .wide, less c e f q)) (narrow c e (not-wide c e f q clear)),
                       turn-on 8 e (omega arith),
                       turn-over 6 e refl,
                       not-not (isOn 6 e),
@@ -150,8 +160,9 @@ module _ (t s level bars : ℕ) (pos : 0 < level) (high : level ≤ 4) (stops : 
               };
         }
       where
-        less : level ≤ 3
-        less = omega (arith, eqb-false level 4 (or-left (eqb level 4) (anyOn (shift level) 13 t) (sym test ∙ h)))
+        -- at level 4 its page bit is set
+        less : (c : Control) (e : ℕ) → Bars c bars → t ≡ turned e → level ≤ 3
+        less c e f q = below-top level e high (at-end c e f q (there c e f q clear) (not-wide c e f q clear)) (sym (same-bits c e f q) ∙ sym test ∙ h)
 
   module _ (barred : bitAnd t (bars - 0x80) ≡ 0 → ⊥) where
     pub way-absent : t % 2 ≡ 1 → Ended t s level bars (level * 32)
@@ -177,9 +188,9 @@ module _ (t s level bars : ℕ) (pos : 0 < level) (high : level ≤ 4) (stops : 
               };
         }
       where
-        wide-by : (c : Control) (e : ℕ) → Bars c bars → t ≡ turned e → isOn 0 e ≡ true → Wide c e ≡ true
+        wide-by : (c : Control) (e : ℕ) → Bars c bars → t ≡ turned e → isOn 0 e ≡ true → isWide c e ≡ true
         wide-by c e f q p =
-            not-false (Wide c e) (sym (rw p at (page-test t bars c e f q)) ∙ ne-eqb (bitAnd t (bars - 0x80)) 0 barred)
+            not-false (isWide c e) (sym (rw p at (page-test t bars c e f q)) ∙ ne-eqb (bitAnd t (bars - 0x80)) 0 barred)
 
 pub part-low : (level t n : ℕ) → level ≤ 4 → n ≡ part 52 (3 + 9 * level) t → n < 2 ^ 52
 part-low level t n h q = rw q (part-lt 52 (3 + 9 * level) t (omega arith))
@@ -223,9 +234,9 @@ module _ (mem : Memory) (x level base seen bars at e : ℕ) (pos : 0 < level) (h
     way-on n d =
         record {
           finds = λ c a f hx.
-              let all : (isOn 0 e && not (isOn 7 e) && not (Wide c e)) ≡ true = sym (table-test t bars c e f refl) ∙ eq-eqb (bitAnd t bars) 0 free in
-              let two : (isOn 0 e && not (isOn 7 e)) ≡ true = and-left _ (not (Wide c e)) all in
-              let w : Wide c e ≡ false = not-true (Wide c e) (and-right (isOn 0 e && not (isOn 7 e)) _ all) in
+              let all : (isOn 0 e && not (isOn 7 e) && not (isWide c e)) ≡ true = sym (table-test t bars c e f refl) ∙ eq-eqb (bitAnd t bars) 0 free in
+              let two : (isOn 0 e && not (isOn 7 e)) ≡ true = and-left _ (not (isWide c e)) all in
+              let w : isWide c e ≡ false = not-true (isWide c e) (and-right (isOn 0 e && not (isOn 7 e)) _ all) in
               let says-table : says c level e ≡ table =
               says-on c level e pos high (and-left (isOn 0 e) _ two) w not-last (not-true (isOn 7 e) (and-right (isOn 0 e) _ two)) in
               let to : next-base ≡ next c e =

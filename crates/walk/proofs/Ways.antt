@@ -1,23 +1,24 @@
 -- The ways through the walk's smaller functions: what each return of the code has to show, from the tests on its way.
-use Prim.Native.Nat.{ℕ, zero, suc, _+_, _-_, _*_, _/_, _%_, _^_, _≤_, _<_}
-use mathlib.Core.Path.{_≡_, refl, ap, sym, _∙_}
-use mathlib.Core.Bool.{Bool, true, false, _||_, not}
+use Prim.Native.Nat.{ℕ, _+_, _-_, _*_, _/_, _%_, _^_, _≤_, _<_}
+use mathlib.Core.Path.{_≡_, ap, sym, _∙_}
+use mathlib.Core.Bool.{Bool, true, false, not}
 use native.Mathlib.Omega.{arith}
-use native.Mathlib.Nat.{mod-lt, mod-one}
-use native.Mathlib.Decide.{decLt}
 use lib.ListN.{length}
-use lib.Dec.{eqb}
-use lib.Pow.{field, pow-mono, pow-pos, pow-lt}
+use lib.Dec.{ltb, eqb}
+use lib.Bits.{bitAnd}
 use borrow.Author.Tests.{eq-eqb, ne-eqb, le-leb, lt-leb}
-use Rattle.rules.specs.Bits.{isOn, wordAt, part, one}
+use Rattle.rules.specs.Bits.{isOn, wordAt, one}
 use Rattle.rules.specs.Image.{nxe}
 use Rattle.rules.specs.Memory.{Memory, entryAt}
+use Rattle.rules.specs.Formats.{rows, rangesOf}
 use Rattle.rules.specs.declared.Control.{Control}
 use Rattle.rules.specs.declared.Cause.the-variants.{NotPresent, Reserved, Protection}
 use Rattle.rules.specs.declared.Found.the-variants.{Page, Fault}
-use Rattle.rules.proofs.BitLaws.{on-one}
+use Rattle.rules.proofs.BitLaws.{one-le, on-one}
 use Rattle.rules.proofs.MemoryLaws.{entry-inside, entry-outside}
-use Rattle.words.proofs.Laws.{one-shl}
+use Rattle.formats.specs.Masks.{maskOf}
+use Rattle.formats.proofs.Laws.{wide-sum}
+use Rattle.formats.proofs.Testing.{mask-test}
 use Rattle.walk.specs.Packed.{rightsOf, accessedIn, barsOf, packPage, unpackOf, isReservedPage}
 use Rattle.walk.proofs.Masks.{not-not}
 
@@ -29,29 +30,8 @@ pub outside : (mem : Memory) (at : ℕ) → length mem ≤ at → 0xFFFFFFFFFFFF
 outside mem at h = sym (entry-outside at mem (omega arith))
 
 -- ---- is_reserved_page
-pub shl-pos : (level : ℕ) → level ≤ 4 → 0 < 1 * 2 ^ (3 + 9 * level) % 2 ^ 64
-shl-pos level h = rw (one-shl (3 + 9 * level) 64 (omega arith)) (pow-pos (3 + 9 * level))
-
--- the bits below h from bit 13 on, of which there are none where h is no higher
-unused : (h t : ℕ) → eqb (t % 2 ^ h / 2 ^ 13) 0 ≡ eqb (part h 13 t) 0
-unused h t = go (decLt h 13)
-  where
-    scaled : (x : ℕ) → eqb x 0 ≡ eqb (x * 2 ^ 13) 0
-    scaled zero = refl
-    scaled (suc x) = ne-eqb (suc x) 0 (λ e. omega arith) ∙ sym (ne-eqb (suc x * 2 ^ 13) 0 (λ e. omega arith))
-
-    go : Dec (h < 13) → eqb (t % 2 ^ h / 2 ^ 13) 0 ≡ eqb (part h 13 t) 0
-    go (no g) =
-        let q : h - 13 + 13 ≡ h = omega arith in
-        ap (λ (x : ℕ). eqb x 0) (rw q at (field t (h - 13) 13)) ∙ scaled (t / 2 ^ 13 % 2 ^ (h - 13))
-    go (yes g) =
-        let q : h - 13 ≡ 0 = omega arith in
-        let z : t % 2 ^ h / 2 ^ 13 ≡ 0 = omega (arith, mod-lt t (pow-pos h), pow-lt g) in
-        rw (q, mod-one (t / 2 ^ 13), z)
-
-pub reserved-page-test : (level t : ℕ) → level ≤ 4
-    → (eqb level 4 || not (eqb (t % (1 * 2 ^ (3 + 9 * level) % 2 ^ 64) / 0x2000) 0)) ≡ isReservedPage level t
-reserved-page-test level t h = rw (one-shl (3 + 9 * level) 64 (omega arith), unused (3 + 9 * level) t)
+pub reserved-page-test : (level t r : ℕ) → r ≡ maskOf (rangesOf (rows 52 true) level (ltb level 4)) → not (eqb (bitAnd t r) 0) ≡ isReservedPage level t
+reserved-page-test level t r h = rw (h, mask-test (rangesOf (rows 52 true) level (ltb level 4)) t) (not-not _)
 
 -- ---- page
 lack : (k s : ℕ) → s / 2 ^ k % 2 ≡ one (not (not (isOn k s)))
@@ -63,18 +43,12 @@ pub paged : (t s level base : ℕ)
 paged t s level base = rw (← lack 1 s, ← lack 2 s, ← lack 63 s, ← lack 6 t, ← lack 5 s, ← on-one 8 t)
 
 -- ---- bars_of
-pub shl-le : (m : ℕ) → m ≤ 52 → 1 * 2 ^ m % 2 ^ 64 ≤ 0x10000000000081
-shl-le m h = rw (one-shl m 64 (omega arith)) (omega (arith, pow-mono h))
+module _ (c : Control) (b : Bool) (r : ℕ) (nx : b ≡ nxe (c .flags)) (row : r ≡ maskOf (rangesOf (rows (c .width) b) 2 false)) where
+  pub bars-lt : r + 0x81 < 2 ^ 64
+  bars-lt = rw (row, nx, wide-sum (c .width) (nxe (c .flags))) (omega (arith, one-le (not (nxe (c .flags)))))
 
-module _ (c : Control) (b : Bool) (narrow : c .width ≤ 52) (nx : b ≡ nxe (c .flags)) where
-  shl : 1 * 2 ^ (c .width) % 2 ^ 64 ≡ 2 ^ (c .width)
-  shl = one-shl (c .width) 64 (omega arith)
-
-  pub bars-nxe : b ≡ true → 0x10000000000081 - 1 * 2 ^ (c .width) % 2 ^ 64 ≡ barsOf c
-  bars-nxe t = rw (← nx, t, shl) (omega (arith, pow-mono narrow))
-
-  pub bars-off : b ≡ false → 0x10000000000081 - 1 * 2 ^ (c .width) % 2 ^ 64 + 0x8000000000000000 ≡ barsOf c
-  bars-off t = rw (← nx, t, shl) (omega (arith, pow-mono narrow))
+  pub bars-are : r + 0x81 ≡ barsOf c
+  bars-are = rw (row, nx)
 
 -- ---- unpack
 pub unpack-page : (n : ℕ) (w u x g d : Bool) → 2048 ≤ n → w ≡ isOn 0 n → u ≡ isOn 1 n → x ≡ isOn 2 n → g ≡ isOn 8 n → d ≡ isOn 3 n

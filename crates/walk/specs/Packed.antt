@@ -1,15 +1,15 @@
 -- The walk's inputs and findings as numbers, which is how the code carries them from level to level: what each number stands for.
 use Prim.Native.Nat.{ℕ, _+_, _-_, _*_, _/_, _%_, _^_, _≤_, _<_}
 use mathlib.Core.Path.{_≡_}
-use mathlib.Core.Bool.{Bool, true, false, cond, _&&_, _||_, not}
+use mathlib.Core.Bool.{Bool, true, false, cond, _&&_, not}
 use mathlib.Core.List.{List, [], _∷_}
 use lib.ListN.{length}
-use lib.Dec.{leb, eqb}
+use lib.Dec.{leb, ltb, eqb}
 use lib.Bits.{bitAnd, bitXor}
-use Rattle.rules.specs.Bits.{isOn, part, anyOn, one}
-use Rattle.rules.specs.Sizes.{shift}
+use Rattle.rules.specs.Bits.{isOn, part, one}
 use Rattle.rules.specs.Image.{nxe}
 use Rattle.rules.specs.Memory.{Memory, entryAt, added}
+use Rattle.rules.specs.Formats.{rows, rangesOf, anyIn}
 use Rattle.rules.specs.Entries.{says}
 use Rattle.rules.specs.Walk.{Leaf, End, reached, stuck, Reach, endAt, step, reach, judged, accessed, dirtied, marked, reachIn, Walked, walk}
 use Rattle.rules.specs.declared.Control.{Control}
@@ -19,6 +19,7 @@ use Rattle.rules.specs.declared.Cause.{Cause}
 use Rattle.rules.specs.declared.Cause.the-variants.{NotPresent, Reserved, Protection}
 use Rattle.rules.specs.declared.Found.{Found}
 use Rattle.rules.specs.declared.Found.the-variants.{Page, Fault}
+use Rattle.formats.specs.Masks.{maskOf}
 use Rattle.numbers.specs.Needs.{neededOf}
 
 -- what `walk` asks of its caller: a width, a table root below 2^52, memory in whole words, and what some access needs of a page
@@ -43,11 +44,11 @@ rightsOf s = record { writable = not (isOn 1 s); user = not (isOn 2 s); executab
 abbrev pub accessedIn : ℕ → Bool
 accessedIn s = not (isOn 5 s)
 
--- the bits that are reserved at every level
+-- the reserved bits of a table, which every row has
 abbrev pub badOf : Control → ℕ
-badOf c = one (not (nxe (c .flags))) * 2 ^ 63 + (2 ^ 52 - 2 ^ (c .width))
+badOf c = maskOf (rangesOf (rows (c .width) (nxe (c .flags))) 2 false)
 
--- a turned entry with none of these bits leads to a next table: these, bit 0 for one that is not present and bit 7 for a page
+-- a turned entry with none of these bits leads to a next table: these, bit 0 for one that is not present and bit 7 for a page, which at level 4 is reserved
 abbrev pub barsOf : Control → ℕ
 barsOf c = badOf c + 0x81
 
@@ -105,9 +106,9 @@ unpackOf n =
     (Fault (cond (eqb (n % 32) 0) NotPresent (cond (eqb (n % 32) 1) Reserved Protection)) (levelIn n) (5 - levelIn n))
 
 -- ---- what the code does from a level on, in the rules' terms: for whatever control and address the numbers stand for
--- a page's entry: at level 4 its page bit is reserved, below it the page's unused bits are
+-- an entry that is present, has no bit that every row has, and leads to no table: of its row what is left is looked at, which is the row at width 52 with NXE on
 abbrev pub isReservedPage : ℕ → ℕ → Bool
-isReservedPage level t = eqb level 4 || anyOn (shift level) 13 t
+isReservedPage level t = anyIn (rangesOf (rows 52 true) level (ltb level 4)) t
 
 -- the walk goes no further: this is the last level, or a bit bars the way
 abbrev pub Stops : ℕ → ℕ → ℕ → Type 0

@@ -42,13 +42,11 @@ fn mark(mem: &mut [u8], at: usize, bits: u8)
     mem[at] = mem[at] | bits;
 }
 
-// A page's entry has a reserved bit set: at level 4 the page bit is one, below it the bits that its size leaves unused are, of which level 1 has none.
+// A page's entry, or one of level 4 with the page bit, has a bit of its row set that is reserved at every width and whether NXE is on or off.
 fn is_reserved_page(level: u64, t: u64) -> bool
-    requires { ⌜ level ≤ 4 ⌝ }
     ensures { λ r. ⌜ r ≡ isReservedPage level t ⌝ }
 {
-    let unused = t % (1 << (3 + 9 * level)) / 0x2000;
-    (level == 4) | !(unused == 0)
+    t & formats::reserved(level, level < 4, 52, true) != 0
 }
 
 // The page that a walk reached as a number, from its entry, what is lacking, its level and its base.
@@ -124,16 +122,13 @@ fn mark_down(mem: &mut [u8], base: u64, x: u64, level: u64, last: u64, bits: u8)
     mark_down(mem, next(e), x << 9, level - 1, last, bits);
 }
 
-// The bits of a turned entry that bar the way to a next table: not present, a page, reserved.
+// The bits of a turned entry that bar the way to a next table: not present, a page, and the row of a table, which at levels 2 and 3 is the same and at level 4 has
+// the page bit too.
 fn bars_of(c: Control) -> u64
     requires { ⌜ c .width ≤ 52 ⌝ }
     ensures { λ r. ⌜ r ≡ barsOf c ⌝ }
 {
-    let bars = 0x10_0000_0000_0081 - (1 << c.width);
-    if words::is_on(4, c.flags) {
-        return bars;
-    }
-    bars + 0x8000_0000_0000_0000
+    formats::reserved(2, false, c.width, words::is_on(4, c.flags)) + 0x81
 }
 
 // Whether an access that needs this may use the page that was reached; if so, the page lacks no mark afterwards.

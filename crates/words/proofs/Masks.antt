@@ -7,8 +7,9 @@ use native.Mathlib.Omega.{arith}
 use native.Mathlib.Nat.{mod-lt, zero-mul, zero-add}
 use lib.Dec.{eqb}
 use borrow.Author.Tests.{ne-eqb}
+use lib.Arith.{bin-ind}
 use lib.Pow.{pow-pos, split}
-use lib.Bits.{bitAnd, bitOr, and-block, and-mask, and-zero-r, or-add-and, and-le-r, or-shr, or-mod}
+use lib.Bits.{bitAnd, bitOr, and-block, and-mask, and-zero-r, or-add-and, and-le-r, and-shr, and-mod, or-shr, or-mod}
 use Rattle.rules.specs.Bits.{isOn, one}
 use Rattle.rules.proofs.BoolLaws.{same}
 use Rattle.rules.proofs.BitLaws.{odd-one, on-one}
@@ -40,3 +41,29 @@ pub zero-or : (a b : ℕ) → eqb (bitOr a b) 0 ≡ (eqb a 0 && eqb b 0)
 zero-or zero b = refl
 zero-or (suc a) b =
     rw (ne-eqb (suc a) 0 (λ e. omega arith)) (ne-eqb (bitOr (suc a) b) 0 (λ e. omega (arith, or-add-and (suc a) b, and-le-r (suc a) b)))
+
+-- ---- a conjunction with a disjunction is that of both conjunctions: so a mask that is made of masks is tested by testing each
+both : (x y z : Bool) → bitAnd (one x) (bitOr (one y) (one z)) ≡ bitOr (bitAnd (one x) (one y)) (bitAnd (one x) (one z))
+both true true true = refl
+both true true false = refl
+both true false true = refl
+both true false false = refl
+both false y z = refl
+
+and-or : (x y z : ℕ) → bitAnd x (bitOr y z) ≡ bitOr (bitAnd x y) (bitAnd x z)
+and-or =
+    bin-ind (λ (n : ℕ). (y z : ℕ) → bitAnd n (bitOr y z) ≡ bitOr (bitAnd n y) (bitAnd n z)) (λ y z. refl)
+    (λ n ih y z.
+    sym (split (bitAnd n (bitOr y z)) 1)
+    ∙ rw (and-shr n (bitOr y z) 1, or-shr y z 1, and-mod n (bitOr y z) 1, or-mod y z 1)
+    (ap₂ (λ (p q : ℕ). p * 2 + q) (ih (y / 2) (z / 2)) (lowest n y z))
+    ∙ rw (or-shr (bitAnd n y) (bitAnd n z) 1, and-shr n y 1, and-shr n z 1, or-mod (bitAnd n y) (bitAnd n z) 1, and-mod n y 1, and-mod n z 1) at
+    (split (bitOr (bitAnd n y) (bitAnd n z)) 1))
+  where
+    lowest : (n y z : ℕ) → bitAnd (n % 2) (bitOr (y % 2) (z % 2)) ≡ bitOr (bitAnd (n % 2) (y % 2)) (bitAnd (n % 2) (z % 2))
+    lowest n y z =
+        rw (odd-one (n % 2) (omega arith), odd-one (y % 2) (omega arith), odd-one (z % 2) (omega arith))
+        (both (eqb (n % 2) 1) (eqb (y % 2) 1) (eqb (z % 2) 1))
+
+pub zero-and-or : (x y z : ℕ) → eqb (bitAnd x (bitOr y z)) 0 ≡ (eqb (bitAnd x y) 0 && eqb (bitAnd x z) 0)
+zero-and-or x y z = ap (λ (n : ℕ). eqb n 0) (and-or x y z) ∙ zero-or (bitAnd x y) (bitAnd x z)
