@@ -12,7 +12,7 @@ use Rattle.rules.specs.Bits.{one}
 use Rattle.rules.specs.Formats.{_‥_, xd, rows, rangesOf}
 use Rattle.rules.proofs.BoolLaws.{and-left, and-right}
 use Rattle.words.proofs.Laws.{one-shl}
-use Rattle.formats.specs.Masks.{bitsOf, maskOf}
+use Rattle.formats.specs.Ranges.{onesIn, maskOf}
 
 -- ---- range
 ones : (h : ℕ) → h < 64 → 0xFFFFFFFFFFFFFFFF / 2 ^ (63 - h) ≡ 2 ^ suc h - 1
@@ -30,31 +30,31 @@ module _ (h l : ℕ) (top : h < 64) (bottom : l < 64) (order : l ≤ h + 1) wher
   pub less : 1 * 2 ^ l % 2 ^ 64 - 1 ≤ 0xFFFFFFFFFFFFFFFF / 2 ^ (63 - h)
   less = rw (one-shl l 64 bottom, ones h top) (omega (arith, below))
 
-  pub difference : 0xFFFFFFFFFFFFFFFF / 2 ^ (63 - h) - (1 * 2 ^ l % 2 ^ 64 - 1) ≡ bitsOf (h ‥ l)
+  pub difference : 0xFFFFFFFFFFFFFFFF / 2 ^ (63 - h) - (1 * 2 ^ l % 2 ^ 64 - 1) ≡ onesIn (h ‥ l)
   difference = rw (one-shl l 64 bottom, ones h top) (omega (arith, pow-pos l, below))
 
--- ---- wide
-pub wide-sum : (m : ℕ) (nxe : Bool) → maskOf (51 ‥ m ∷ xd nxe) ≡ one (not nxe) * 2 ^ 63 + (2 ^ 52 - 2 ^ m)
-wide-sum m true = rw or-zero-r (omega arith)
-wide-sum m false = or-shifted-r 1 63 (2 ^ 52 - 2 ^ m) (omega arith)
+-- ---- common
+pub common-sum : (m : ℕ) (nxe : Bool) → maskOf (51 ‥ m ∷ xd nxe) ≡ one (not nxe) * 2 ^ 63 + (2 ^ 52 - 2 ^ m)
+common-sum m true = rw or-zero-r (omega arith)
+common-sum m false = or-shifted-r 1 63 (2 ^ 52 - 2 ^ m) (omega arith)
 
-module _ (m a : ℕ) (nxe : Bool) (ha : a ≡ bitsOf (51 ‥ m)) where
-  pub wide-on : nxe ≡ true → a ≡ maskOf (51 ‥ m ∷ xd nxe)
-  wide-on t = rw (wide-sum m nxe, t, ha) (omega arith)
+module _ (m a : ℕ) (nxe : Bool) (ha : a ≡ onesIn (51 ‥ m)) where
+  pub common-on : nxe ≡ true → a ≡ maskOf (51 ‥ m ∷ xd nxe)
+  common-on t = rw (common-sum m nxe, t, ha) (omega arith)
 
-  module _ (b : ℕ) (hb : b ≡ bitsOf (63 ‥ 63)) where
-    pub wide-lt : a + b < 2 ^ 64
-    wide-lt = rw (ha, hb) (omega arith)
+  module _ (b : ℕ) (hb : b ≡ onesIn (63 ‥ 63)) where
+    pub common-lt : a + b < 2 ^ 64
+    common-lt = rw (ha, hb) (omega arith)
 
-    pub wide-off : nxe ≡ false → a + b ≡ maskOf (51 ‥ m ∷ xd nxe)
-    wide-off t = rw (wide-sum m nxe, t, ha, hb) (omega arith)
+    pub common-off : nxe ≡ false → a + b ≡ maskOf (51 ‥ m ∷ xd nxe)
+    common-off t = rw (common-sum m nxe, t, ha, hb) (omega arith)
 
 -- ---- reserved: the row whose test is met is the entry's
 module _ (level : ℕ) (page : Bool) (m : ℕ) (nxe : Bool) where
-  abbrev Row : ℕ → Type 0
-  Row x = x ≡ maskOf (rangesOf (rows m nxe) level page)
+  abbrev IsRow : ℕ → Type 0
+  IsRow x = x ≡ maskOf (rangesOf (rows m nxe) level page)
 
-  named : (n x : ℕ) (p : Bool) → (eqb level n && cond p page (not page)) ≡ true → x ≡ maskOf (rangesOf (rows m nxe) n p) → Row x
+  named : (n x : ℕ) (p : Bool) → (eqb level n && cond p page (not page)) ≡ true → x ≡ maskOf (rangesOf (rows m nxe) n p) → IsRow x
   named n x p t e = rw (eqb-true level n (and-left (eqb level n) _ t), kind p page (and-right (eqb level n) _ t)) e
     where
       kind : (p q : Bool) → cond p q (not q) ≡ true → q ≡ p
@@ -62,24 +62,24 @@ module _ (level : ℕ) (page : Bool) (m : ℕ) (nxe : Bool) where
       kind false q h = not-true q h
 
   module _ (a : ℕ) (ha : a ≡ maskOf (51 ‥ m ∷ xd nxe)) where
-    pub table-4 : (o : ℕ) → o ≡ bitsOf (7 ‥ 7) → (eqb level 4 && not page) ≡ true → Row (bitOr o a)
+    pub table-4 : (o : ℕ) → o ≡ onesIn (7 ‥ 7) → (eqb level 4 && not page) ≡ true → IsRow (bitOr o a)
     table-4 o ho t = named 4 _ false t (rw (ho, ha))
 
-    pub page-3 : (o : ℕ) → o ≡ bitsOf (29 ‥ 13) → (eqb level 3 && page) ≡ true → Row (bitOr o a)
+    pub page-3 : (o : ℕ) → o ≡ onesIn (29 ‥ 13) → (eqb level 3 && page) ≡ true → IsRow (bitOr o a)
     page-3 o ho t = named 3 _ true t (rw (ho, ha))
 
-    pub table-3 : (eqb level 3 && not page) ≡ true → Row a
+    pub table-3 : (eqb level 3 && not page) ≡ true → IsRow a
     table-3 t = named 3 _ false t ha
 
-    pub page-2 : (o : ℕ) → o ≡ bitsOf (20 ‥ 13) → (eqb level 2 && page) ≡ true → Row (bitOr o a)
+    pub page-2 : (o : ℕ) → o ≡ onesIn (20 ‥ 13) → (eqb level 2 && page) ≡ true → IsRow (bitOr o a)
     page-2 o ho t = named 2 _ true t (rw (ho, ha))
 
-    pub table-2 : (eqb level 2 && not page) ≡ true → Row a
+    pub table-2 : (eqb level 2 && not page) ≡ true → IsRow a
     table-2 t = named 2 _ false t ha
 
-    pub page-1 : (eqb level 1 && page) ≡ true → Row a
+    pub page-1 : (eqb level 1 && page) ≡ true → IsRow a
     page-1 t = named 1 _ true t ha
 
   pub none : (eqb level 4 && not page) ≡ false → (eqb level 3 && page) ≡ false → (eqb level 3 && not page) ≡ false → (eqb level 2 && page) ≡ false
-      → (eqb level 2 && not page) ≡ false → (eqb level 1 && page) ≡ false → Row 0
+      → (eqb level 2 && not page) ≡ false → (eqb level 1 && page) ≡ false → IsRow 0
   none f₁ f₂ f₃ f₄ f₅ f₆ = rw (f₁, f₂, f₃, f₄, f₅, f₆)

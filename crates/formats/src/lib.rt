@@ -4,20 +4,20 @@ ghost use mathlib.Core.Path.{_≡_};
 ghost use Prim.Native.Nat.{_+_, _≤_, _<_};
 ghost use mathlib.Core.List.{_∷_};
 ghost use Rattle.rules.specs.Formats.{_‥_, xd, rows, rangesOf};
-ghost use Rattle.formats.specs.Masks.{bitsOf, maskOf};
+ghost use Rattle.formats.specs.Ranges.{onesIn, maskOf};
 
 const ALL: u64 = 0xFFFF_FFFF_FFFF_FFFF;
 
 // Bits from high down to low: all from high down, less those below low.
 pub fn range(high: u64, low: u64) -> u64
     requires { ⌜ (high < 64) × ((low < 64) × (low ≤ high + 1)) ⌝ }
-    ensures { λ r. ⌜ r ≡ bitsOf (high ‥ low) ⌝ }
+    ensures { λ r. ⌜ r ≡ onesIn (high ‥ low) ⌝ }
 {
     (ALL >> (63 - high)) - ((1 << low) - 1)
 }
 
 // What every row ends in: bits 51..M, and bit 63, XD, while NXE is off.
-fn wide(m: u64, nxe: bool) -> u64
+fn common(m: u64, nxe: bool) -> u64
     requires { ⌜ m ≤ 52 ⌝ }
     ensures { λ r. ⌜ r ≡ maskOf (51 ‥ m ∷ xd nxe) ⌝ }
 {
@@ -32,24 +32,24 @@ pub fn reserved(level: u64, page: bool, m: u64, nxe: bool) -> u64
     requires { ⌜ m ≤ 52 ⌝ }
     ensures { λ r. ⌜ r ≡ maskOf (rangesOf (rows m nxe) level page) ⌝ }
 {
-    let all = wide(m, nxe);
+    let rest = common(m, nxe);
     if (level == 4) & !page {
-        return range(7, 7) | all;
+        return range(7, 7) | rest;
     }
     if (level == 3) & page {
-        return range(29, 13) | all;
+        return range(29, 13) | rest;
     }
     if (level == 3) & !page {
-        return all;
+        return rest;
     }
     if (level == 2) & page {
-        return range(20, 13) | all;
+        return range(20, 13) | rest;
     }
     if (level == 2) & !page {
-        return all;
+        return rest;
     }
     if (level == 1) & page {
-        return all;
+        return rest;
     }
     0
 }

@@ -7,7 +7,7 @@ use mathlib.Core.Logic.{_≢_}
 use mathlib.Core.Bool.{Bool, true, false}
 use native.Mathlib.Omega.{arith}
 use native.Mathlib.Numerals.{add-one}
-use native.Mathlib.Nat.{mod-lt, mul-mod-left, div-eq-of-lt, div-lt-iff-lt-mul, add-mul-div-right, add-mul-mod-self-right}
+use native.Mathlib.Nat.{mod-lt, mod-one, zero-mul, mul-mod-left, div-eq-of-lt, div-lt-iff-lt-mul, add-mul-div-right, add-mul-mod-self-right}
 use native.Mathlib.Decide.{ℕ-discrete, decLt}
 use lib.Pow.{pow-pos, shl-lt, shr-shr, field, mod-mod-pow}
 use lib.Dec.{eqb}
@@ -33,6 +33,11 @@ bit-high k i x y h e = ap (λ (z : ℕ). z % 2) (above k i x y h e)
 
 pub part-high : (k h l x y : ℕ) → k ≤ l → x / 2 ^ k ≡ y / 2 ^ k → part h l x ≡ part h l y
 part-high k h l x y g e = ap (λ (z : ℕ). z % 2 ^ (h - l) * 2 ^ l) (above k l x y g e)
+
+pub part-none : (h l x : ℕ) → h ≤ l → part h l x ≡ 0
+part-none h l x g =
+    let d : h - l ≡ 0 = omega arith in
+    rw (d, mod-one (x / 2 ^ l), zero-mul)
 
 -- ---- setting a bit
 set-here : (k x : ℕ) → withBit k x / 2 ^ k ≡ x / 2 ^ k + (1 - bit k x)

@@ -4,7 +4,7 @@ use mathlib.Core.Path.{_≡_, refl, ap, ap₂, sym}
 use mathlib.Core.Bool.{Bool, true, false, cond, _&&_, _||_, not, true≢false}
 use mathlib.Core.List.{List, [], _∷_}
 use native.Mathlib.Omega.{arith}
-use native.Mathlib.Nat.{mod-one, zero-mul}
+use native.Mathlib.Nat.{zero-mul}
 use lib.Dec.{eqb, leb}
 use lib.Pow.{pow-pos}
 use borrow.Author.Tests.{ne-eqb, eqb-true, eqb-false, le-leb, leb-true}
@@ -15,7 +15,7 @@ use Rattle.rules.specs.Formats.{Range, Row, xd, rows, rangesOf, anyIn}
 use Rattle.rules.specs.Entries.{isPage, isReserved, sorted, says}
 use Rattle.rules.specs.declared.Control.{Control}
 use Rattle.rules.proofs.BoolLaws.{either, or-left, and-left, and-right, same}
-use Rattle.rules.proofs.BitLaws.{on-one, part-high}
+use Rattle.rules.proofs.BitLaws.{on-one, part-high, part-none}
 
 -- ---- a range of one bit, and one of none
 one-bit : (k e : ℕ) → anyOn (suc k) k e ≡ isOn k e
@@ -28,17 +28,15 @@ one-bit k e =
     go false h = rw (h, zero-mul)
 
 no-bit : (k e : ℕ) → anyOn k k e ≡ false
-no-bit k e =
-    let d : k - k ≡ 0 = omega arith in
-    rw (d, mod-one (e / 2 ^ k), zero-mul)
+no-bit k e = rw (part-none k k e (omega arith))
 
 -- ---- the answers as document 01 words them: bits that every entry has, the page bit at level 4, and of a page those of its size
 xd-on : (b : Bool) (e : ℕ) → anyIn (xd b) e ≡ (not b && isOn 63 e)
 xd-on true e = refl
 xd-on false e = rw (one-bit 63 e) (same 1 (λ p. p || false) (λ p. p) refl (isOn 63 e))
 
-abbrev pub isWide : Control → ℕ → Bool
-isWide c e = anyOn 52 (c .width) e || (not (nxe (c .flags)) && isOn 63 e)
+abbrev pub isCommon : Control → ℕ → Bool
+isCommon c e = anyOn 52 (c .width) e || (not (nxe (c .flags)) && isOn 63 e)
 
 abbrev pub isOwn : ℕ → Bool → ℕ → Bool
 isOwn level page e = (eqb level 4 && isOn 7 e) || (page && anyOn (sizeAt level .reserved) 13 e)
@@ -48,19 +46,19 @@ abbrev pub Stands : ℕ → Bool → Type 0
 Stands level true = (1 ≤ level) × (level ≤ 3)
 Stands level false = (2 ≤ level) × (level ≤ 4)
 
-pub by-size : (c : Control) (level : ℕ) (page : Bool) (e : ℕ) → Stands level page → isReserved c level page e ≡ (isWide c e || isOwn level page e)
+pub by-size : (c : Control) (level : ℕ) (page : Bool) (e : ℕ) → Stands level page → isReserved c level page e ≡ (isCommon c e || isOwn level page e)
 by-size c zero true e h = absurd (omega arith)
 by-size c zero false e h = absurd (omega arith)
-by-size c (suc zero) true e h = rw (xd-on (nxe (c .flags)) e, no-bit 13 e) (same 1 (λ w. w) (λ w. w || (false || false)) refl (isWide c e))
+by-size c (suc zero) true e h = rw (xd-on (nxe (c .flags)) e, no-bit 13 e) (same 1 (λ w. w) (λ w. w || (false || false)) refl (isCommon c e))
 by-size c (suc zero) false e h = absurd (omega arith)
-by-size c (suc (suc zero)) true e h = rw (xd-on (nxe (c .flags)) e) (same 2 (λ w o. o || w) (λ w o. w || (false || o)) refl (isWide c e) (anyOn 21 13 e))
-by-size c (suc (suc zero)) false e h = rw (xd-on (nxe (c .flags)) e) (same 1 (λ w. w) (λ w. w || (false || false)) refl (isWide c e))
+by-size c (suc (suc zero)) true e h = rw (xd-on (nxe (c .flags)) e) (same 2 (λ w o. o || w) (λ w o. w || (false || o)) refl (isCommon c e) (anyOn 21 13 e))
+by-size c (suc (suc zero)) false e h = rw (xd-on (nxe (c .flags)) e) (same 1 (λ w. w) (λ w. w || (false || false)) refl (isCommon c e))
 by-size c (suc (suc (suc zero))) true e h =
-    rw (xd-on (nxe (c .flags)) e) (same 2 (λ w o. o || w) (λ w o. w || (false || o)) refl (isWide c e) (anyOn 30 13 e))
-by-size c (suc (suc (suc zero))) false e h = rw (xd-on (nxe (c .flags)) e) (same 1 (λ w. w) (λ w. w || (false || false)) refl (isWide c e))
+    rw (xd-on (nxe (c .flags)) e) (same 2 (λ w o. o || w) (λ w o. w || (false || o)) refl (isCommon c e) (anyOn 30 13 e))
+by-size c (suc (suc (suc zero))) false e h = rw (xd-on (nxe (c .flags)) e) (same 1 (λ w. w) (λ w. w || (false || false)) refl (isCommon c e))
 by-size c (suc (suc (suc (suc zero)))) true e h = absurd (omega arith)
 by-size c (suc (suc (suc (suc zero)))) false e h =
-    rw (xd-on (nxe (c .flags)) e, one-bit 7 e) (same 2 (λ w s. s || w) (λ w s. w || (s || false)) refl (isWide c e) (isOn 7 e))
+    rw (xd-on (nxe (c .flags)) e, one-bit 7 e) (same 2 (λ w s. s || w) (λ w s. w || (s || false)) refl (isCommon c e) (isOn 7 e))
 by-size c (suc (suc (suc (suc (suc level))))) true e h = absurd (omega arith)
 by-size c (suc (suc (suc (suc (suc level))))) false e h = absurd (omega arith)
 
@@ -85,7 +83,7 @@ stands level e h g true q = (h, page-low level e q)
 stands level e h g false q = (omega (arith, eqb-false level 1 (or-left (eqb level 1) _ q)), g)
 
 pub says-by-size : (c : Control) (level e : ℕ) → 0 < level → level ≤ 4
-    → says c level e ≡ sorted (isOn 0 e) (isWide c e || isOwn level (isPage level e) e) (isPage level e)
+    → says c level e ≡ sorted (isOn 0 e) (isCommon c e || isOwn level (isPage level e) e) (isPage level e)
 says-by-size c level e h g =
     ap (λ (b : Bool). sorted (isOn 0 e) b (isPage level e)) (by-size c level (isPage level e) e (stands level e h g (isPage level e) refl))
 

@@ -1,4 +1,4 @@
--- Bits and words. A number's bits are counted from 0; where document 01 writes "bits h..l", here stand h + 1, the first bit above, and l.
+-- Bits and words. A number's bits are counted from 0; where document 01 writes "bits h..l", the definitions here take h + 1, the first bit above, and l.
 -- A number of several bytes stands with its lowest byte first.
 use Prim.Native.Nat.{ℕ, zero, suc, _+_, _-_, _*_, _/_, _%_, _^_, _<_}
 use mathlib.Core.Bool.{Bool, true, false, not}

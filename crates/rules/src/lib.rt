@@ -32,7 +32,7 @@ pub struct Size {
     pub level: u64,
     // The page's length in bytes.
     pub length: u64,
-    // The reserved bits of its entry are those from 13 up that stand below this one.
+    // The reserved bits of its own are those from 13 up that stand below this one.
     pub reserved: u64,
     // How many sets of the buffer are its own, and the first of them.
     pub sets: u64,

@@ -19,7 +19,7 @@ use Rattle.rules.specs.declared.Rights.{Rights}
 use Rattle.rules.specs.declared.Cause.{Cause}
 use Rattle.rules.proofs.BoolLaws.{or-left}
 use Rattle.rules.proofs.BitLaws.{part-high, set-other, one-le, on-one}
-use Rattle.rules.proofs.FormatLaws.{isWide, says-by-size}
+use Rattle.rules.proofs.FormatLaws.{isCommon, says-by-size}
 use Rattle.rules.proofs.MemoryLaws.{added-outside, added-order}
 use Rattle.rules.proofs.Grown.{grown-added}
 use Rattle.rules.proofs.WalkLaws.{reach-step, endLevel, end-low, last-table}
@@ -121,7 +121,7 @@ not-reserved true false l h = refl
 
 leads-on : (c : Control) (level e : ℕ) → 36 ≤ c .width → c .width ≤ 52 → 0 < level → level ≤ 4 → says c level e ≡ table → part 52 12 e ≡ next c e
 leads-on c level e w n pos high h =
-    let b : isWide c e ≡ false = or-left (isWide c e) _ (not-reserved (isOn 0 e) _ (isPage level e) (sym (says-by-size c level e pos high) ∙ h)) in
+    let b : isCommon c e ≡ false = or-left (isCommon c e) _ (not-reserved (isOn 0 e) _ (isPage level e) (sym (says-by-size c level e pos high) ∙ h)) in
     cut (c .width) 12 e n (omega arith) (narrow c e b)
 
 -- ---- marks in one order or another

@@ -15,9 +15,9 @@ use Rattle.rules.specs.Entries.{also}
 use Rattle.rules.specs.declared.Control.{Control}
 use Rattle.rules.proofs.BoolLaws.{same}
 use Rattle.rules.proofs.BitLaws.{bit-high, part-high, one-le, on-one}
-use Rattle.rules.proofs.FormatLaws.{isWide}
+use Rattle.rules.proofs.FormatLaws.{isCommon}
 use Rattle.words.proofs.Masks.{and-one, and-split, and-below, and-flag, or-on}
-use Rattle.formats.proofs.Laws.{wide-sum}
+use Rattle.formats.proofs.Laws.{common-sum}
 use Rattle.walk.specs.Packed.{turned, rightsOf, accessedIn, badOf}
 
 pub not-not : (b : Bool) → not (not b) ≡ b
@@ -79,11 +79,11 @@ module _ (c : Control) (e : ℕ) (wide : 36 ≤ c .width) (narrow : c .width ≤
   low-and : (t : ℕ) (f : Bool) → bitAnd t (one f * 128 + 1) ≡ one (f && isOn 7 t) * 128 + one (isOn 0 t)
   low-and t f = rw (and-flag 7 t 1 (omega arith) f, and-one t true, div-one t)
 
-  pub bar-test : (f : Bool) → eqb (bitAnd (turned e) (badOf c + (one f * 128 + 1))) 0 ≡ (isOn 0 e && not (f && isOn 7 e) && not (isWide c e))
+  pub bar-test : (f : Bool) → eqb (bitAnd (turned e) (badOf c + (one f * 128 + 1))) 0 ≡ (isOn 0 e && not (f && isOn 7 e) && not (isCommon c e))
   bar-test f =
       let b : Bool = not (nxe (c .flags)) in
       let low : ℕ = one f * 128 + 1 in
-      let s : badOf c + low ≡ one b * 2 ^ 63 + (2 ^ 52 - 2 ^ w + low) = ap (λ (n : ℕ). n + low) (wide-sum w (nxe (c .flags))) ∙ add-assoc _ _ _ in
+      let s : badOf c + low ≡ one b * 2 ^ 63 + (2 ^ 52 - 2 ^ w + low) = ap (λ (n : ℕ). n + low) (common-sum w (nxe (c .flags))) ∙ add-assoc _ _ _ in
       rw (
         s,
         and-flag 63 (turned e) (2 ^ 52 - 2 ^ w + low) (omega (arith, one-le f)) b,

@@ -18,7 +18,7 @@ use Rattle.rules.specs.declared.Control.{Control}
 use Rattle.rules.specs.declared.Cause.the-variants.{NotPresent, Reserved}
 use Rattle.rules.proofs.BoolLaws.{or-left, and-left, and-right}
 use Rattle.rules.proofs.BitLaws.{part-lt}
-use Rattle.rules.proofs.FormatLaws.{isWide, isOwn, widest, own-bits, says-by-size, reserved-high}
+use Rattle.rules.proofs.FormatLaws.{isCommon, isOwn, widest, own-bits, says-by-size, reserved-high}
 use Rattle.rules.proofs.WalkLaws.{reach-step}
 use Rattle.walk.specs.Packed.{turned, rightsOf, accessedIn, badOf, Bars, slid, packPage, packEnd, packReach, allAccessed, isReservedPage, Stops, EndsAt, Ended, Down}
 use Rattle.walk.proofs.Masks.{not-not, turn-over, turn-high, turn-on, turn-part, rights-or, accessed-or, bar-test, cut}
@@ -62,14 +62,14 @@ below-top level e high t f = go (ℕ-discrete level 4)
     go (no n) = omega arith
 
 module _ (c : Control) (level e : ℕ) (pos : 0 < level) (high : level ≤ 4) (present : isOn 0 e ≡ true) where
-  says-wide : isWide c e ≡ true → says c level e ≡ bad
-  says-wide w = says-by-size c level e pos high ∙ rw (present, w)
+  says-common : isCommon c e ≡ true → says c level e ≡ bad
+  says-common w = says-by-size c level e pos high ∙ rw (present, w)
 
-  says-end : isWide c e ≡ false → (eqb level 1 || isOn 7 e) ≡ true → says c level e ≡ cond (isReservedPage level e) bad page
+  says-end : isCommon c e ≡ false → (eqb level 1 || isOn 7 e) ≡ true → says c level e ≡ cond (isReservedPage level e) bad page
   says-end w t = says-by-size c level e pos high ∙ go (ℕ-discrete level 4)
     where
       go : Dec (level ≡ 4)
-          → sorted (isOn 0 e) (isWide c e || isOwn level (isPage level e) e) (isPage level e) ≡ cond (isReservedPage level e) bad page
+          → sorted (isOn 0 e) (isCommon c e || isOwn level (isPage level e) e) (isPage level e) ≡ cond (isReservedPage level e) bad page
       go (yes q) =
           let b : isOn 7 e ≡ true = rw q at t in
           rw (q, present, w, top-bit e b, b)
@@ -78,7 +78,7 @@ module _ (c : Control) (level e : ℕ) (pos : 0 < level) (high : level ≤ 4) (p
           rw (lt-ltb level 4 (omega arith), own-bits level true e (pos, l), present, w, ne-eqb level 4 n, le-leb level 3 l, t)
           (leaf-kind (anyOn (sizeAt level .reserved) 13 e))
 
-  says-on : isWide c e ≡ false → (level ≡ 1 → ⊥) → isOn 7 e ≡ false → says c level e ≡ table
+  says-on : isCommon c e ≡ false → (level ≡ 1 → ⊥) → isOn 7 e ≡ false → says c level e ≡ table
   says-on w n b = says-by-size c level e pos high ∙ rw (present, w, ne-eqb level 1 n, b, and-false (eqb level 4), and-false (leb level 3))
 
 -- bit 0 of a turned entry
@@ -89,23 +89,23 @@ present-by : (t e : ℕ) → t ≡ turned e → isOn 0 t ≡ false → isOn 0 e 
 present-by t e q h = not-false (isOn 0 e) (sym (ap (isOn 0) q ∙ turn-over 0 e refl) ∙ h)
 
 -- no address bit beyond the width
-pub narrow : (c : Control) (e : ℕ) → isWide c e ≡ false → part 52 (c .width) e ≡ 0
+pub narrow : (c : Control) (e : ℕ) → isCommon c e ≡ false → part 52 (c .width) e ≡ 0
 narrow c e w = eqb-true (part 52 (c .width) e) 0 (not-false (eqb (part 52 (c .width) e) 0) (or-left (anyOn 52 (c .width) e) _ w))
 
 -- ---- the tests for a page, and for a table, which asks for bit 7 too
 module _ (t bars : ℕ) (c : Control) (e : ℕ) (f : Bars c bars) (q : t ≡ turned e) where
-  page-test : eqb (bitAnd t (bars - 0x80)) 0 ≡ (isOn 0 e && true && not (isWide c e))
+  page-test : eqb (bitAnd t (bars - 0x80)) 0 ≡ (isOn 0 e && true && not (isCommon c e))
   page-test =
       let m : bars - 0x80 ≡ badOf c + (one false * 128 + 1) = omega (arith, f .are) in
       rw (m, q) (bar-test c e (f .wide) (f .narrow) false)
 
-  table-test : eqb (bitAnd t bars) 0 ≡ (isOn 0 e && not (isOn 7 e) && not (isWide c e))
+  table-test : eqb (bitAnd t bars) 0 ≡ (isOn 0 e && not (isOn 7 e) && not (isCommon c e))
   table-test = rw (f .are, q) (bar-test c e (f .wide) (f .narrow) true)
 
 -- ---- the ways out of `end`
 module _ (t s level bars : ℕ) (pos : 0 < level) (high : level ≤ 4) (stops : Stops level t bars) where
   module _ (c : Control) (e : ℕ) (f : Bars c bars) (q : t ≡ turned e) where
-    at-end : isOn 0 e ≡ true → isWide c e ≡ false → (eqb level 1 || isOn 7 e) ≡ true
+    at-end : isOn 0 e ≡ true → isCommon c e ≡ false → (eqb level 1 || isOn 7 e) ≡ true
     at-end p w = go (ℕ-discrete level 1) (isOn 7 e) refl
       where
         go : Dec (level ≡ 1) → (b : Bool) → isOn 7 e ≡ b → (eqb level 1 || b) ≡ true
@@ -118,17 +118,17 @@ module _ (t s level bars : ℕ) (pos : 0 < level) (high : level ≤ 4) (stops : 
     same-bits = reserved-high widest level (ltb level 4) t e (omega arith) (ap (λ (z : ℕ). z / 2 ^ 7) q ∙ turn-high e)
 
     module _ (clear : bitAnd t (bars - 0x80) ≡ 0) where
-      both : (isOn 0 e && true && not (isWide c e)) ≡ true
+      both : (isOn 0 e && true && not (isCommon c e)) ≡ true
       both = sym (page-test t bars c e f q) ∙ eq-eqb _ 0 clear
 
       there : isOn 0 e ≡ true
       there = and-left (isOn 0 e) true (and-left (isOn 0 e && true) _ both)
 
-      not-wide : isWide c e ≡ false
-      not-wide = not-true (isWide c e) (and-right (isOn 0 e && true) _ both)
+      not-common : isCommon c e ≡ false
+      not-common = not-true (isCommon c e) (and-right (isOn 0 e && true) _ both)
 
       ended : says c level e ≡ cond (isReservedPage level t) bad page
-      ended = says-end c level e pos high there not-wide (at-end there not-wide) ∙ ap (λ (u : Bool). cond u bad page) (sym same-bits)
+      ended = says-end c level e pos high there not-common (at-end there not-common) ∙ ap (λ (u : Bool). cond u bad page) (sym same-bits)
 
   module _ (clear : bitAnd t (bars - 0x80) ≡ 0) (b : Bool) (test : b ≡ isReservedPage level t) where
     pub way-reserved : b ≡ true → Ended t s level bars (level * 32 + 1)
@@ -152,7 +152,7 @@ module _ (t s level bars : ℕ) (pos : 0 < level) (high : level ≤ 4) (stops : 
                       hb,
                       q,
                       turn-part 52 (3 + 9 * level) e (omega arith),
-                      cut (c .width) (3 + 9 * level) e (f .narrow) (omega (arith, f .wide, less c e f q)) (narrow c e (not-wide c e f q clear)),
+                      cut (c .width) (3 + 9 * level) e (f .narrow) (omega (arith, f .wide, less c e f q)) (narrow c e (not-common c e f q clear)),
                       turn-on 8 e (omega arith),
                       turn-over 6 e refl,
                       not-not (isOn 6 e),
@@ -162,7 +162,7 @@ module _ (t s level bars : ℕ) (pos : 0 < level) (high : level ≤ 4) (stops : 
       where
         -- at level 4 its page bit is set
         less : (c : Control) (e : ℕ) → Bars c bars → t ≡ turned e → level ≤ 3
-        less c e f q = below-top level e high (at-end c e f q (there c e f q clear) (not-wide c e f q clear)) (sym (same-bits c e f q) ∙ sym test ∙ h)
+        less c e f q = below-top level e high (at-end c e f q (there c e f q clear) (not-common c e f q clear)) (sym (same-bits c e f q) ∙ sym test ∙ h)
 
   module _ (barred : bitAnd t (bars - 0x80) ≡ 0 → ⊥) where
     pub way-absent : t % 2 ≡ 1 → Ended t s level bars (level * 32)
@@ -183,14 +183,14 @@ module _ (t s level bars : ℕ) (pos : 0 < level) (high : level ≤ 4) (stops : 
               let p : isOn 0 e ≡ true = present-by t e q (ne-eqb (t / 1 % 2) 1 (λ z. h (omega arith))) in
               record {
                 end = stuck Reserved level;
-                ends = λ below. rw (says-wide c level e pos high p (wide-by c e f q p));
+                ends = λ below. rw (says-common c level e pos high p (common-by c e f q p));
                 number = refl;
               };
         }
       where
-        wide-by : (c : Control) (e : ℕ) → Bars c bars → t ≡ turned e → isOn 0 e ≡ true → isWide c e ≡ true
-        wide-by c e f q p =
-            not-false (isWide c e) (sym (rw p at (page-test t bars c e f q)) ∙ ne-eqb (bitAnd t (bars - 0x80)) 0 barred)
+        common-by : (c : Control) (e : ℕ) → Bars c bars → t ≡ turned e → isOn 0 e ≡ true → isCommon c e ≡ true
+        common-by c e f q p =
+            not-false (isCommon c e) (sym (rw p at (page-test t bars c e f q)) ∙ ne-eqb (bitAnd t (bars - 0x80)) 0 barred)
 
 pub part-low : (level t n : ℕ) → level ≤ 4 → n ≡ part 52 (3 + 9 * level) t → n < 2 ^ 52
 part-low level t n h q = rw q (part-lt 52 (3 + 9 * level) t (omega arith))
@@ -234,9 +234,9 @@ module _ (mem : Memory) (x level base seen bars at e : ℕ) (pos : 0 < level) (h
     way-on n d =
         record {
           finds = λ c a f hx.
-              let all : (isOn 0 e && not (isOn 7 e) && not (isWide c e)) ≡ true = sym (table-test t bars c e f refl) ∙ eq-eqb (bitAnd t bars) 0 free in
-              let two : (isOn 0 e && not (isOn 7 e)) ≡ true = and-left _ (not (isWide c e)) all in
-              let w : isWide c e ≡ false = not-true (isWide c e) (and-right (isOn 0 e && not (isOn 7 e)) _ all) in
+              let all : (isOn 0 e && not (isOn 7 e) && not (isCommon c e)) ≡ true = sym (table-test t bars c e f refl) ∙ eq-eqb (bitAnd t bars) 0 free in
+              let two : (isOn 0 e && not (isOn 7 e)) ≡ true = and-left _ (not (isCommon c e)) all in
+              let w : isCommon c e ≡ false = not-true (isCommon c e) (and-right (isOn 0 e && not (isOn 7 e)) _ all) in
               let says-table : says c level e ≡ table =
               says-on c level e pos high (and-left (isOn 0 e) _ two) w not-last (not-true (isOn 7 e) (and-right (isOn 0 e) _ two)) in
               let to : next-base ≡ next c e =

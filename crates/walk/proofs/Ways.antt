@@ -16,8 +16,8 @@ use Rattle.rules.specs.declared.Cause.the-variants.{NotPresent, Reserved, Prote
 use Rattle.rules.specs.declared.Found.the-variants.{Page, Fault}
 use Rattle.rules.proofs.BitLaws.{one-le, on-one}
 use Rattle.rules.proofs.MemoryLaws.{entry-inside, entry-outside}
-use Rattle.formats.specs.Masks.{maskOf}
-use Rattle.formats.proofs.Laws.{wide-sum}
+use Rattle.formats.specs.Ranges.{maskOf}
+use Rattle.formats.proofs.Laws.{common-sum}
 use Rattle.formats.proofs.Testing.{mask-test}
 use Rattle.walk.specs.Packed.{rightsOf, accessedIn, barsOf, packPage, unpackOf, isReservedPage}
 use Rattle.walk.proofs.Masks.{not-not}
@@ -45,7 +45,7 @@ paged t s level base = rw (← lack 1 s, ← lack 2 s, ← lack 63 s, ← lack 6
 -- ---- bars_of
 module _ (c : Control) (b : Bool) (r : ℕ) (nx : b ≡ nxe (c .flags)) (row : r ≡ maskOf (rangesOf (rows (c .width) b) 2 false)) where
   pub bars-lt : r + 0x81 < 2 ^ 64
-  bars-lt = rw (row, nx, wide-sum (c .width) (nxe (c .flags))) (omega (arith, one-le (not (nxe (c .flags)))))
+  bars-lt = rw (row, nx, common-sum (c .width) (nxe (c .flags))) (omega (arith, one-le (not (nxe (c .flags)))))
 
   pub bars-are : r + 0x81 ≡ barsOf c
   bars-are = rw (row, nx)

@@ -19,7 +19,7 @@ use Rattle.rules.specs.declared.Cause.{Cause}
 use Rattle.rules.specs.declared.Cause.the-variants.{NotPresent, Reserved, Protection}
 use Rattle.rules.specs.declared.Found.{Found}
 use Rattle.rules.specs.declared.Found.the-variants.{Page, Fault}
-use Rattle.formats.specs.Masks.{maskOf}
+use Rattle.formats.specs.Ranges.{maskOf}
 use Rattle.numbers.specs.Needs.{neededOf}
 
 -- what `walk` asks of its caller: a width, a table root below 2^52, memory in whole words, and what some access needs of a page

@@ -4,8 +4,8 @@ use borrow.Author.Needs.{needs}
 use Rattle.formats.proofs.reserved.Statement.{statement}
 use Rattle.formats.proofs.reserved.Tie as tie
 
-wide-requires : tie.Need-wide-requires
-wide-requires c κs = search needs
+common-requires : tie.Need-common-requires
+common-requires c κs = search needs
 
 range-requires : tie.Need-range-requires
 range-requires c κs = search needs
@@ -38,4 +38,4 @@ returns-7 : tie.Need-returns-7
 returns-7 c = search none
 
 pub reserved-spec : {M : Type 1} → statement M
-reserved-spec = tie.close (tie.spec wide-requires range-requires returns range-requires-2 returns-2 returns-3 range-requires-3 returns-4 returns-5 returns-6 returns-7)
+reserved-spec = tie.close (tie.spec common-requires range-requires returns range-requires-2 returns-2 returns-3 range-requires-3 returns-4 returns-5 returns-6 returns-7)

@@ -1,4 +1,4 @@
--- Its four ways: a reserved bit of a page, the page, nothing mapped, a bit that is reserved at every level.
+-- Its four ways: a reserved bit of a page, the page, nothing mapped, a bit that every row has.
 use Rattle.walk.proofs.Steps.{way-reserved, way-page, way-absent, way-bad, part-low}
 use borrow.Author.Needs.{needs}
 use Rattle.walk.proofs.end.Statement.{statement}

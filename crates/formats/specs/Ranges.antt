@@ -5,9 +5,9 @@ use lib.Bits.{bitOr}
 use Rattle.rules.specs.Formats.{Range}
 
 -- the number that has the bits of a range set and no others
-abbrev pub bitsOf : Range → ℕ
-bitsOf r = 2 ^ suc (r .high) - 2 ^ r .low
+abbrev pub onesIn : Range → ℕ
+onesIn r = 2 ^ suc (r .high) - 2 ^ r .low
 
 abbrev pub maskOf : List Range → ℕ
 maskOf [] = 0
-maskOf (r ∷ rs) = bitOr (bitsOf r) (maskOf rs)
+maskOf (r ∷ rs) = bitOr (onesIn r) (maskOf rs)
