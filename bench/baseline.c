@@ -4,12 +4,15 @@
  */
 #include "baseline_parts.h"
 
-/* NXE is the same bit of the flags as a fetch is of the code. */
+/* A fetch is told with NXE or SMEP on, which are the same bits of a place among the codes as of the flags. */
 APART uint64_t fault(uint8_t *answer, const uint8_t *image, uint64_t kind, uint64_t cause, uint64_t read)
 {
-    static const uint8_t codes[6] = {0, 2, 16, 4, 6, 20};
-    uint64_t told = image[FLAGS_AT] | ~PASTRULOW_CODE_FETCH;
-    return answer_words(answer, PASTRULOW_FAULT, (codes[kind] & told) | cause, 0, read);
+    static const uint8_t codes[64] = {
+        0, 2, 0,  4, 6, 4,  0, 2, 0, 0, 0, 0, 0, 0, 0, 0, 0, 2, 16, 4, 6, 20, 0, 2, 0, 0, 0, 0, 0, 0, 0, 0,
+        0, 2, 16, 4, 6, 20, 0, 2, 0, 0, 0, 0, 0, 0, 0, 0, 0, 2, 16, 4, 6, 20, 0, 2, 0, 0, 0, 0, 0, 0, 0, 0,
+    };
+    uint64_t telling = image[FLAGS_AT] & (PASTRULOW_NXE | PASTRULOW_SMEP);
+    return answer_words(answer, PASTRULOW_FAULT, codes[telling + kind] | cause, 0, read);
 }
 
 /* The victim's way; its number moves on. */
@@ -57,9 +60,8 @@ PART uint64_t take_page(uint8_t *image, const struct walk *walk, uint64_t kind, 
 {
     uint64_t flags = load(image + FLAGS_AT), offset = BIT(length) - 1, read = (48 - length) / 9;
     uint64_t rights = (walk->every >> 1 & 3) | (~walk->any >> 61 & EXECUTABLE);
-    unsigned need = needs[kind + 4 * (flags & PASTRULOW_WP)];
-    bool write = (need & DIRTY) != 0;
-    if (UNLIKELY((~rights & need & ~(unsigned)DIRTY) != 0))
+    bool write = (rules_of(flags)[4 * kind + 1] & DIRTY) != 0;
+    if (UNLIKELY(!serves(rights | DIRTY, rules_of(flags), kind)))
         return fault(answer, image, kind, PASTRULOW_CODE_PRESENT, read);
     uint64_t entry = walk->entry | (write ? ENTRY_DIRTY : 0);
     if (UNLIKELY(!(walk->every & ACCESSED) || entry != walk->entry))
@@ -145,10 +147,10 @@ APART uint64_t translate_oddly(uint8_t *image, uint8_t *answer, uint8_t *memory,
 
 /* A slot that matches serves the access, or all matches are dropped. */
 PART uint64_t use(uint8_t *image, uint8_t *answer, uint8_t *memory, size_t memory_len, uint64_t kind, uint64_t address,
-                  const uint8_t *slot, unsigned length, unsigned need)
+                  const uint8_t *slot, unsigned length, const uint8_t *in_force)
 {
     uint64_t data = load(slot + 8), offset = BIT(length) - 1;
-    if (UNLIKELY((~data & need) != 0))
+    if (UNLIKELY(!serves(data, in_force, kind)))
         return drop_and_walk(image, answer, memory, memory_len, kind, address);
     return answer_words(answer, PASTRULOW_ADDRESS, (data & (BIT(52) - BIT(length))) | (address & offset), BIT(length), 0);
 }
@@ -159,24 +161,25 @@ APART uint64_t search(uint8_t *image, uint8_t *answer, uint8_t *memory, size_t m
 {
     const uint8_t *slot = find_ours(image, address, 12);
     if (slot != NULL)
-        return use(image, answer, memory, memory_len, kind, address, slot, 12, needed(image)[kind]);
+        return use(image, answer, memory, memory_len, kind, address, slot, 12, rules_of(image[FLAGS_AT]));
     slot = find_ours(image, address, 21);
     if (slot != NULL)
-        return use(image, answer, memory, memory_len, kind, address, slot, 21, needed(image)[kind]);
+        return use(image, answer, memory, memory_len, kind, address, slot, 21, rules_of(image[FLAGS_AT]));
     slot = find_ours(image, address, 30);
     if (slot != NULL)
-        return use(image, answer, memory, memory_len, kind, address, slot, 30, needed(image)[kind]);
+        return use(image, answer, memory, memory_len, kind, address, slot, 30, rules_of(image[FLAGS_AT]));
     return walk_tables(image, answer, memory, memory_len, kind, address);
 }
 
 /* Answers from the first slot of a size that holds the page, if one does and it is this PCID's, as `ours` says of the slot. */
-#define TRY(length, wanted, ours, need)                                                                                  \
+#define TRY(length, wanted, ours, in_force)                                                                              \
     do {                                                                                                                 \
         const uint8_t *slot = first_with(set_of(image, address, length), wanted, mask);                                  \
-        if (slot != NULL && UNLIKELY(!(ours)))                                                                           \
-            return search(image, answer, memory, memory_len, kind, address);                                             \
-        if (slot != NULL)                                                                                                \
-            return use(image, answer, memory, memory_len, kind, address, slot, length, need);                            \
+        if (slot != NULL) {                                                                                              \
+            if (UNLIKELY(!(ours)))                                                                                       \
+                return search(image, answer, memory, memory_len, kind, address);                                         \
+            return use(image, answer, memory, memory_len, kind, address, slot, length, in_force);                        \
+        }                                                                                                                \
     } while (0)
 
 PART const uint8_t *first_with(const uint8_t *set, uint64_t wanted, uint64_t mask)
@@ -193,13 +196,13 @@ APART uint64_t look_for_large(uint8_t *image, uint8_t *answer, uint8_t *memory, 
 {
     uint64_t mask = PAGE_FIELD | HELD;
     PIN(mask);
-    TRY(21, page_of(address, 21) | HELD, is_ours(image, load(slot)), needed(image)[kind]);
-    TRY(30, page_of(address, 30) | HELD, is_ours(image, load(slot)), needed(image)[kind]);
+    TRY(21, page_of(address, 21) | HELD, slot_is_ours(image, &slot), rules_of(image[FLAGS_AT]));
+    TRY(30, page_of(address, 30) | HELD, slot_is_ours(image, &slot), rules_of(image[FLAGS_AT]));
     return walk_tables(image, answer, memory, memory_len, kind, address);
 }
 
 uint64_t pastrulow_translate(uint8_t *image, size_t image_len, uint8_t *memory, size_t memory_len, uint64_t kind,
-                             uint64_t address, uint8_t *answer, size_t answer_len)
+                             uint64_t address, uint64_t ac, uint8_t *answer, size_t answer_len)
 {
     uint64_t mask = PAGE_FIELD | HELD;
     if (UNLIKELY(answer_len != PASTRULOW_ANSWER_BYTES))
@@ -209,8 +212,11 @@ uint64_t pastrulow_translate(uint8_t *image, size_t image_len, uint8_t *memory, 
     if (UNLIKELY(!image_fits(image) || kind > 5 || memory_len % PASTRULOW_PAGE_BYTES != 0 ||
                  !(image[FLAGS_AT] & PASTRULOW_PG) || !canonical(address)))
         return translate_oddly(image, answer, memory, memory_len, kind, address);
+    if (UNLIKELY(ac != 0))
+        kind = kinds_by_ac[kind];
     PIN(mask);
-    TRY(12, address << 2 | HELD, is_ours(image, load(slot)), needed(image)[kind]);
+    PIN(image); /* so that the flags are read again, and not kept in a register that must be saved */
+    TRY(12, address << 2 | HELD, slot_is_ours(image, &slot), rules_of(image[FLAGS_AT]));
     return look_for_large(image, answer, memory, memory_len, kind, address);
 }
 
@@ -229,17 +235,17 @@ APART void translate_many_shortly(const uint8_t *image, uint8_t *answers, size_t
         translate_shortly(image, answers + 2 * at, memory_len, load(pairs + at), load(pairs + at + 8));
 }
 
-/* What the kinds need, and what a tag of this PCID has beside the page, are the same for all pairs of a call. */
+/* The rules in force, and what a tag of this PCID has beside the page, are the same for all pairs of a call. */
 PART uint64_t translate_pair(uint8_t *image, uint8_t *answer, uint8_t *memory, size_t memory_len, uint64_t kind,
-                             uint64_t address, const uint8_t *need, uint64_t own)
+                             uint64_t address, const uint8_t *in_force, uint64_t own)
 {
     uint64_t mask = PAGE_FIELD | HELD, small = (address & ~UINT64_C(4095)) << 2 | own;
     uint64_t large = page_of(address, 21) | own, largest = page_of(address, 30) | own;
     if (UNLIKELY(kind > 5 || !canonical(address)))
         return translate_shortly(image, answer, memory_len, kind, address);
-    TRY(12, small, is_ours_by(load(slot) ^ small), need[kind]);
-    TRY(21, large, is_ours_by(load(slot) ^ large), need[kind]);
-    TRY(30, largest, is_ours_by(load(slot) ^ largest), need[kind]);
+    TRY(12, small, is_ours_by(load(slot) ^ small), in_force);
+    TRY(21, large, is_ours_by(load(slot) ^ large), in_force);
+    TRY(30, largest, is_ours_by(load(slot) ^ largest), in_force);
     return walk_tables(image, answer, memory, memory_len, kind, address);
 }
 
@@ -258,10 +264,10 @@ uint64_t pastrulow_translate_many(uint8_t *image, size_t image_len, uint8_t *mem
         translate_many_shortly(image, answers, memory_len, pairs, pairs_len);
         return 0;
     }
-    const uint8_t *need = needed(image);
+    const uint8_t *in_force = rules_of(image[FLAGS_AT]);
     uint64_t own = current_pcid(image) << 2 | HELD;
     for (size_t at = 0; at < pairs_len; at += PASTRULOW_PAIR_BYTES)
-        translate_pair(image, answers + 2 * at, memory, memory_len, load(pairs + at), load(pairs + at + 8), need, own);
+        translate_pair(image, answers + 2 * at, memory, memory_len, load(pairs + at), load(pairs + at + 8), in_force, own);
     return 0;
 }
 
@@ -362,10 +368,10 @@ uint64_t pastrulow_write_mode(uint8_t *image, size_t image_len, uint64_t flags, 
     uint64_t changed = flags ^ load(image + FLAGS_AT);
     bool without_paging = (flags & (PASTRULOW_PCIDE | PASTRULOW_PG)) == PASTRULOW_PCIDE;
     bool turned_on = (flags & changed & PASTRULOW_PCIDE) != 0;
-    if (UNLIKELY(flags > 31 || without_paging || (turned_on && (load(image + CR3_AT) & 4095) != 0)))
+    if (UNLIKELY(flags > 127 || without_paging || (turned_on && (load(image + CR3_AT) & 4095) != 0)))
         return refuse(answer, 7);
     store(image + FLAGS_AT, flags);
-    if ((changed & ~PASTRULOW_WP) != 0)
+    if ((changed & ~(PASTRULOW_WP | PASTRULOW_SMEP | PASTRULOW_SMAP)) != 0)
         drop_all(image);
     return answer_done(answer);
 }

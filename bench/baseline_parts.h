@@ -19,16 +19,46 @@ enum { WRITABLE = 1, USER = 2, EXECUTABLE = 4, DIRTY = 8 };
 /* An entry. */
 enum { PRESENT = 1, ACCESSED = 0x20, ENTRY_DIRTY = 0x40, LARGE = 0x80 };
 
-/* What a data word must have for a kind of access; the second half is for WP on. */
-static const uint8_t needs[16] = {
-    0, DIRTY,            EXECUTABLE, USER, USER | WRITABLE | DIRTY, USER | EXECUTABLE, 0, 0,
-    0, WRITABLE | DIRTY, EXECUTABLE, USER, USER | WRITABLE | DIRTY, USER | EXECUTABLE, 0, 0,
-};
+/* What a kind of access is with AC set: a supervisor's read and write, which SMAP then leaves alone, are kinds of their own. */
+static const uint8_t kinds_by_ac[6] = {6, 7, 2, 3, 4, 5};
 
-/* The half that is in force, by kind. */
-PART const uint8_t *needed(const uint8_t *image)
+/*
+ * By kind, what is looked at in a data word, and which of it must be there, the rest being what must not; then the same with
+ * WP on. Given are the rights that a supervisor's read or write, and a fetch, must not find.
+ */
+#define RULES(data, fetch)                                                                                               \
+    data, 0, data, 0,                                                                                                    \
+    data | DIRTY, DIRTY, data | WRITABLE | DIRTY, WRITABLE | DIRTY,                                                      \
+    fetch | EXECUTABLE, EXECUTABLE, fetch | EXECUTABLE, EXECUTABLE,                                                      \
+    USER, USER, USER, USER,                                                                                              \
+    USER | WRITABLE | DIRTY, USER | WRITABLE | DIRTY, USER | WRITABLE | DIRTY, USER | WRITABLE | DIRTY,                  \
+    USER | EXECUTABLE, USER | EXECUTABLE, USER | EXECUTABLE, USER | EXECUTABLE,                                          \
+    0, 0, 0, 0,                                                                                                          \
+    DIRTY, DIRTY, WRITABLE | DIRTY, WRITABLE | DIRTY
+
+/* Of a place here WP, SMEP and SMAP are the same bits as of the flags; the kind is those between. */
+static const uint8_t rules[128] = {RULES(0, 0), RULES(0, USER), RULES(USER, 0), RULES(USER, USER)};
+
+PART const uint8_t *rules_of(uint64_t flags)
 {
-    return needs + 4 * (image[FLAGS_AT] & PASTRULOW_WP);
+    return rules + (flags & (PASTRULOW_WP | PASTRULOW_SMEP | PASTRULOW_SMAP));
+}
+
+/* Whether a data word is as it must be. */
+PART bool serves(uint64_t data, const uint8_t *in_force, uint64_t kind)
+{
+    return ((uint8_t)data & in_force[4 * kind]) == in_force[4 * kind + 1];
+}
+
+/* Keeps a value in a register, and what it is from the compiler. */
+#define PIN(value) __asm__("" : "+r"(value))
+
+/* Else the compiler keeps some 0 that it has met, in a register that must be saved, up to the return. */
+PART uint64_t none(void)
+{
+    uint64_t number = 0;
+    PIN(number);
+    return number;
 }
 
 PART uint64_t answer_words(uint8_t *answer, uint64_t kind, uint64_t value, uint64_t size, uint64_t read)
@@ -37,7 +67,7 @@ PART uint64_t answer_words(uint8_t *answer, uint64_t kind, uint64_t value, uint6
     store(answer + 8, value);
     store(answer + 16, size);
     store(answer + 24, read);
-    return 0;
+    return none();
 }
 
 PART uint64_t answer_done(uint8_t *answer)
@@ -66,7 +96,7 @@ PART bool all_zero(const uint8_t *bytes, unsigned blocks)
 PART bool image_fits(const uint8_t *image)
 {
     return LIKELY(load(image) - 36 <= 16) &&
-           LIKELY((load(image + FLAGS_AT) >> 5 | load(image + VICTIMS_AT) >> 50) == 0) && LIKELY(all_zero(image + REST_AT, 26));
+           LIKELY((load(image + FLAGS_AT) >> 7 | load(image + VICTIMS_AT) >> 50) == 0) && LIKELY(all_zero(image + REST_AT, 26));
 }
 
 PART bool canonical(uint64_t address)
@@ -113,14 +143,18 @@ PART bool is_ours(const uint8_t *image, uint64_t tag)
     return (tag & PCID_FIELD) == 0;
 }
 
+/* The same of a slot whose tag is read again, so that the search for it need not keep it. */
+PART bool slot_is_ours(const uint8_t *image, const uint8_t **slot)
+{
+    PIN(*slot);
+    return is_ours(image, load(*slot));
+}
+
 /* The same by the bits in which its tag differs from one of the current PCID that is not global. */
 PART bool is_ours_by(uint64_t difference)
 {
     return LIKELY((difference & PCID_FIELD) == 0) || (difference & GLOBAL) != 0;
 }
-
-/* Keeps a constant in a register. */
-#define PIN(value) __asm__("" : "+r"(value))
 
 PART uint8_t *find_ours(uint8_t *image, uint64_t address, unsigned length)
 {

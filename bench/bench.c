@@ -15,7 +15,8 @@
 
 #include "pastrulow.h"
 
-enum { GUEST_BYTES = 24 * 1024, FLAGS = 23, ROOT = 0x1000, CODE = 4 };
+/* Newer guests run with both SMEP and SMAP on. */
+enum { GUEST_BYTES = 24 * 1024, FLAGS = 23, NEWER = 119, ROOT = 0x1000, CODE = 4 };
 
 static _Alignas(64) uint8_t images[PASTRULOW_IMAGE_BYTES + 64], kept[PASTRULOW_IMAGE_BYTES];
 static _Alignas(64) uint8_t memory[GUEST_BYTES], tables[GUEST_BYTES];
@@ -27,7 +28,7 @@ static uint8_t *image = images;
 
 struct door {
     uint64_t (*start)(uint8_t *, size_t, uint64_t, uint8_t *, size_t);
-    uint64_t (*translate)(uint8_t *, size_t, uint8_t *, size_t, uint64_t, uint64_t, uint8_t *, size_t);
+    uint64_t (*translate)(uint8_t *, size_t, uint8_t *, size_t, uint64_t, uint64_t, uint64_t, uint8_t *, size_t);
     uint64_t (*translate_many)(uint8_t *, size_t, uint8_t *, size_t, const uint8_t *, size_t, uint8_t *, size_t);
     uint64_t (*invlpg)(uint8_t *, size_t, uint64_t, uint8_t *, size_t);
     uint64_t (*invpcid)(uint8_t *, size_t, uint64_t, uint64_t, uint64_t, uint8_t *, size_t);
@@ -47,9 +48,10 @@ static uint64_t no_start(uint8_t *i, size_t il, uint64_t w, uint8_t *a, size_t a
     return (void)i, (void)il, (void)w, (void)a, (void)al, 0;
 }
 
-static uint64_t no_translate(uint8_t *i, size_t il, uint8_t *m, size_t ml, uint64_t k, uint64_t v, uint8_t *a, size_t al)
+static uint64_t no_translate(uint8_t *i, size_t il, uint8_t *m, size_t ml, uint64_t k, uint64_t v, uint64_t ac, uint8_t *a,
+                             size_t al)
 {
-    return (void)i, (void)il, (void)m, (void)ml, (void)k, (void)v, (void)a, (void)al, 0;
+    return (void)i, (void)il, (void)m, (void)ml, (void)k, (void)v, (void)ac, (void)a, (void)al, 0;
 }
 
 static uint64_t no_many(uint8_t *i, size_t il, uint8_t *m, size_t ml, const uint8_t *p, size_t pl, uint8_t *a, size_t al)
@@ -95,45 +97,53 @@ struct operation {
     enum held held;
     enum restored restored;
     unsigned offset;      /* of the image from an alignment of 64 */
+    uint64_t flags;       /* that the guest runs with */
     uint64_t expected[4]; /* the record's words; or records held, lost, reports, and the repeats of record 63 */
 };
 
 #define FAR_ADDRESS UINT64_C(0x00007FFFFFFFF000)
 
 static const struct operation operations[] = {
-    {"hit, 4 KiB", TRANSLATE, {0, 0x123, 0}, PAGE_4K, NONE, 0, {0, 0x5123, 4096, 0}},
-    {"hit, 4 KiB, image not aligned", TRANSLATE, {0, 0x123, 0}, PAGE_4K, NONE, 8, {0, 0x5123, 4096, 0}},
-    {"hit, 4 KiB, last way, all held", TRANSLATE, {0, 0x123, 0}, FULL, NONE, 0, {0, 0x5123, 4096, 0}},
-    {"hit, 2 MiB", TRANSLATE, {0, 0x212345, 0}, PAGE_2M, NONE, 0, {0, 0x612345, 2097152, 0}},
-    {"hit, 2 MiB, last way, all held", TRANSLATE, {0, 0x212345, 0}, FULL, NONE, 0, {0, 0x612345, 2097152, 0}},
-    {"hit, 1 GiB", TRANSLATE, {0, 0x40000010, 0}, PAGE_1G, NONE, 0, {0, 0x40000010, 1073741824, 0}},
-    {"miss, 4 KiB: 4 levels and fill", TRANSLATE, {0, 0x123, 0}, NOTHING, IMAGE, 0, {0, 0x5123, 4096, 4}},
-    {"miss, 4 KiB, sets accessed bits", TRANSLATE, {0, 0x123, 0}, NOTHING, IMAGE_AND_TABLES, 0, {0, 0x5123, 4096, 4}},
-    {"miss, 4 KiB, all held: a victim", TRANSLATE, {0, 0x123, 0}, FULL_OF_OTHERS, IMAGE, 0, {0, 0x5123, 4096, 4}},
-    {"miss, 2 MiB: 3 levels and fill", TRANSLATE, {0, 0x212345, 0}, NOTHING, IMAGE, 0, {0, 0x612345, 2097152, 3}},
-    {"fault at level 4", TRANSLATE, {0, FAR_ADDRESS, 0}, NOTHING, NONE, 0, {1, 0, 0, 1}},
-    {"many: 1 hit, 4 KiB", TRANSLATE_MANY, {1, 0x123, 0}, PAGE_4K, NONE, 0, {0, 0x5123, 4096, 0}},
-    {"many: 8 hits, 4 KiB", TRANSLATE_MANY, {8, 0x123, 0}, PAGE_4K, NONE, 0, {0, 0x5123, 4096, 0}},
-    {"many: 64 hits, 4 KiB", TRANSLATE_MANY, {64, 0x123, 0}, PAGE_4K, NONE, 0, {0, 0x5123, 4096, 0}},
-    {"many: 64 hits, 2 MiB", TRANSLATE_MANY, {64, 0x212345, 0}, PAGE_2M, NONE, 0, {0, 0x612345, 2097152, 0}},
-    {"many: 64 hits, 1 GiB", TRANSLATE_MANY, {64, 0x40000010, 0}, PAGE_1G, NONE, 0, {0, 0x40000010, 1073741824, 0}},
-    {"many: 64 misses, 4 KiB", TRANSLATE_MANY, {64, 0x123, 0x1000}, NOTHING, IMAGE, 0, {0, 0x5123, 4096, 4}},
-    {"INVLPG of a page held", INVLPG, {0x123, 0, 0}, PAGE_4K, IMAGE, 0, {3, 0, 0, 0}},
-    {"CR3 write, buffer empty", WRITE_CR3, {ROOT, 0, 0}, NOTHING, NONE, 0, {3, 0, 0, 0}},
-    {"CR3 write, all held and dropped", WRITE_CR3, {ROOT, 0, 0}, FULL, IMAGE, 0, {3, 0, 0, 0}},
-    {"CR3 write, all held and global", WRITE_CR3, {ROOT, 0, 0}, FULL_OF_GLOBAL, NONE, 0, {3, 0, 0, 0}},
-    {"mode write, nothing changes", WRITE_MODE, {FLAGS, 0, 0}, PAGE_4K, NONE, 0, {3, 0, 0, 0}},
-    {"mode write, all dropped", WRITE_MODE, {FLAGS & ~4, 0, 0}, PAGE_4K, IMAGE, 0, {3, 0, 0, 0}},
-    {"INVPCID type 0 of a page held", INVPCID, {0, 0, 0x123}, PAGE_4K, IMAGE, 0, {3, 0, 0, 0}},
-    {"INVPCID type 1, one page held", INVPCID, {1, 0, 0}, PAGE_4K, IMAGE, 0, {3, 0, 0, 0}},
-    {"INVPCID type 2, one page held", INVPCID, {2, 0, 0}, PAGE_4K, IMAGE, 0, {3, 0, 0, 0}},
-    {"INVPCID type 3, one page held", INVPCID, {3, 0, 0}, PAGE_4K, IMAGE, 0, {3, 0, 0, 0}},
-    {"start", START, {40, 0, 0}, NOTHING, NONE, 0, {3, 0, 0, 0}},
-    {"journal: report equal to record 0", REPORT, {0x123, CODE, ROOT}, RECORDS_64, JOURNAL, 0, {64, 0, 65, 0}},
-    {"journal: report equal to record 63", REPORT, {0x3f123, CODE, ROOT}, RECORDS_64, JOURNAL, 0, {64, 0, 65, 1}},
-    {"journal: report lost", REPORT, {0x40123, CODE, ROOT}, RECORDS_64, JOURNAL, 0, {64, 1, 65, 0}},
-    {"journal: a new fault, 63 held", REPORT, {0x3f123, CODE, ROOT}, RECORDS_63, JOURNAL, 0, {64, 0, 64, 0}},
-    {"journal clear", CLEAR, {0, 0, 0}, RECORDS_64, JOURNAL, 0, {0, 0, 0, 0}},
+    {"hit, 4 KiB", TRANSLATE, {0, 0x123, 0}, PAGE_4K, NONE, 0, FLAGS, {0, 0x5123, 4096, 0}},
+    {"hit, 4 KiB, image not aligned", TRANSLATE, {0, 0x123, 0}, PAGE_4K, NONE, 8, FLAGS, {0, 0x5123, 4096, 0}},
+    {"hit, 4 KiB, last way, all held", TRANSLATE, {0, 0x123, 0}, FULL, NONE, 0, FLAGS, {0, 0x5123, 4096, 0}},
+    {"hit, 2 MiB", TRANSLATE, {0, 0x212345, 0}, PAGE_2M, NONE, 0, FLAGS, {0, 0x612345, 2097152, 0}},
+    {"hit, 2 MiB, last way, all held", TRANSLATE, {0, 0x212345, 0}, FULL, NONE, 0, FLAGS, {0, 0x612345, 2097152, 0}},
+    {"hit, 1 GiB", TRANSLATE, {0, 0x40000010, 0}, PAGE_1G, NONE, 0, FLAGS, {0, 0x40000010, 1073741824, 0}},
+    {"miss, 4 KiB: 4 levels and fill", TRANSLATE, {0, 0x123, 0}, NOTHING, IMAGE, 0, FLAGS, {0, 0x5123, 4096, 4}},
+    {"miss, 4 KiB, sets accessed bits", TRANSLATE, {0, 0x123, 0}, NOTHING, IMAGE_AND_TABLES, 0, FLAGS, {0, 0x5123, 4096, 4}},
+    {"miss, 4 KiB, all held: a victim", TRANSLATE, {0, 0x123, 0}, FULL_OF_OTHERS, IMAGE, 0, FLAGS, {0, 0x5123, 4096, 4}},
+    {"miss, 2 MiB: 3 levels and fill", TRANSLATE, {0, 0x212345, 0}, NOTHING, IMAGE, 0, FLAGS, {0, 0x612345, 2097152, 3}},
+    {"fault at level 4", TRANSLATE, {0, FAR_ADDRESS, 0}, NOTHING, NONE, 0, FLAGS, {1, 0, 0, 1}},
+    {"hit, 4 KiB, SMEP and SMAP on", TRANSLATE, {0, 0x123, 0}, PAGE_4K, NONE, 0, NEWER, {0, 0x5123, 4096, 0}},
+    {"hit, 4 KiB, both on, a fetch", TRANSLATE, {2, 0x123, 0}, PAGE_4K, NONE, 0, NEWER, {0, 0x5123, 4096, 0}},
+    {"hit, 2 MiB, both on, AC set", TRANSLATE, {0, 0x212345, 1}, PAGE_2M, NONE, 0, NEWER, {0, 0x612345, 2097152, 0}},
+    {"hit, 1 GiB, both on", TRANSLATE, {0, 0x40000010, 0}, PAGE_1G, NONE, 0, NEWER, {0, 0x40000010, 1073741824, 0}},
+    {"miss, 4 KiB, both on", TRANSLATE, {0, 0x123, 0}, NOTHING, IMAGE, 0, NEWER, {0, 0x5123, 4096, 4}},
+    {"fault by SMAP: 3 levels", TRANSLATE, {0, 0x212345, 0}, NOTHING, NONE, 0, NEWER, {1, 1, 0, 3}},
+    {"many: 1 hit, 4 KiB", TRANSLATE_MANY, {1, 0x123, 0}, PAGE_4K, NONE, 0, FLAGS, {0, 0x5123, 4096, 0}},
+    {"many: 8 hits, 4 KiB", TRANSLATE_MANY, {8, 0x123, 0}, PAGE_4K, NONE, 0, FLAGS, {0, 0x5123, 4096, 0}},
+    {"many: 64 hits, 4 KiB", TRANSLATE_MANY, {64, 0x123, 0}, PAGE_4K, NONE, 0, FLAGS, {0, 0x5123, 4096, 0}},
+    {"many: 64 hits, 4 KiB, both on", TRANSLATE_MANY, {64, 0x123, 0}, PAGE_4K, NONE, 0, NEWER, {0, 0x5123, 4096, 0}},
+    {"many: 64 hits, 2 MiB", TRANSLATE_MANY, {64, 0x212345, 0}, PAGE_2M, NONE, 0, FLAGS, {0, 0x612345, 2097152, 0}},
+    {"many: 64 hits, 1 GiB", TRANSLATE_MANY, {64, 0x40000010, 0}, PAGE_1G, NONE, 0, FLAGS, {0, 0x40000010, 1073741824, 0}},
+    {"many: 64 misses, 4 KiB", TRANSLATE_MANY, {64, 0x123, 0x1000}, NOTHING, IMAGE, 0, FLAGS, {0, 0x5123, 4096, 4}},
+    {"INVLPG of a page held", INVLPG, {0x123, 0, 0}, PAGE_4K, IMAGE, 0, FLAGS, {3, 0, 0, 0}},
+    {"CR3 write, buffer empty", WRITE_CR3, {ROOT, 0, 0}, NOTHING, NONE, 0, FLAGS, {3, 0, 0, 0}},
+    {"CR3 write, all held and dropped", WRITE_CR3, {ROOT, 0, 0}, FULL, IMAGE, 0, FLAGS, {3, 0, 0, 0}},
+    {"CR3 write, all held and global", WRITE_CR3, {ROOT, 0, 0}, FULL_OF_GLOBAL, NONE, 0, FLAGS, {3, 0, 0, 0}},
+    {"mode write, nothing changes", WRITE_MODE, {FLAGS, 0, 0}, PAGE_4K, NONE, 0, FLAGS, {3, 0, 0, 0}},
+    {"mode write, all dropped", WRITE_MODE, {FLAGS & ~4, 0, 0}, PAGE_4K, IMAGE, 0, FLAGS, {3, 0, 0, 0}},
+    {"INVPCID type 0 of a page held", INVPCID, {0, 0, 0x123}, PAGE_4K, IMAGE, 0, FLAGS, {3, 0, 0, 0}},
+    {"INVPCID type 1, one page held", INVPCID, {1, 0, 0}, PAGE_4K, IMAGE, 0, FLAGS, {3, 0, 0, 0}},
+    {"INVPCID type 2, one page held", INVPCID, {2, 0, 0}, PAGE_4K, IMAGE, 0, FLAGS, {3, 0, 0, 0}},
+    {"INVPCID type 3, one page held", INVPCID, {3, 0, 0}, PAGE_4K, IMAGE, 0, FLAGS, {3, 0, 0, 0}},
+    {"start", START, {40, 0, 0}, NOTHING, NONE, 0, FLAGS, {3, 0, 0, 0}},
+    {"journal: report equal to record 0", REPORT, {0x123, CODE, ROOT}, RECORDS_64, JOURNAL, 0, FLAGS, {64, 0, 65, 0}},
+    {"journal: report equal to record 63", REPORT, {0x3f123, CODE, ROOT}, RECORDS_64, JOURNAL, 0, FLAGS, {64, 0, 65, 1}},
+    {"journal: report lost", REPORT, {0x40123, CODE, ROOT}, RECORDS_64, JOURNAL, 0, FLAGS, {64, 1, 65, 0}},
+    {"journal: a new fault, 63 held", REPORT, {0x3f123, CODE, ROOT}, RECORDS_63, JOURNAL, 0, FLAGS, {64, 0, 64, 0}},
+    {"journal clear", CLEAR, {0, 0, 0}, RECORDS_64, JOURNAL, 0, FLAGS, {0, 0, 0, 0}},
 };
 
 enum { OPERATIONS = sizeof operations / sizeof *operations };
@@ -146,7 +156,7 @@ static uint64_t make(const struct door *door, const struct operation *operation)
     case START:
         return door->start(image, image_len, n[0], record, sizeof record);
     case TRANSLATE:
-        return door->translate(image, image_len, memory, sizeof memory, n[0], n[1], record, sizeof record);
+        return door->translate(image, image_len, memory, sizeof memory, n[0], n[1], n[2], record, sizeof record);
     case TRANSLATE_MANY:
         return door->translate_many(image, image_len, memory, sizeof memory, pairs, n[0] * PASTRULOW_PAIR_BYTES, records,
                                     n[0] * PASTRULOW_ANSWER_BYTES);
@@ -204,7 +214,7 @@ static void hold(enum held held)
         return;
     }
     if (held <= PAGE_1G) {
-        pastrulow_translate(image, PASTRULOW_IMAGE_BYTES, memory, sizeof memory, 0, pages[held], record, sizeof record);
+        pastrulow_translate(image, PASTRULOW_IMAGE_BYTES, memory, sizeof memory, 0, pages[held], 1, record, sizeof record);
         return;
     }
     hold_pages(0, 16, 0x5000, round, held == FULL_OF_GLOBAL);
@@ -233,7 +243,7 @@ static void set_up(const struct operation *operation)
     put_pairs(operation);
     pastrulow_start(image, image_len, 40, record, sizeof record);
     pastrulow_write_cr3(image, image_len, ROOT, record, sizeof record);
-    pastrulow_write_mode(image, image_len, FLAGS, record, sizeof record);
+    pastrulow_write_mode(image, image_len, operation->flags, record, sizeof record);
     hold(operation->held);
     memcpy(kept, image, image_len);
     memcpy(tables, memory, sizeof memory);

@@ -1,7 +1,7 @@
 /*
- * An example host: the trial guest of document 01, a few accesses, an INVLPG, a CR3 switch, a saved state with PCIDs and many
- * addresses in one call; and a journal of the faults. It may be copied; it compiles as C11 and as C++17. Link it with
- * libpastrulow.a.
+ * An example host: the trial guest of document 01, a few accesses, an INVLPG, a CR3 switch, a saved state with PCIDs, many
+ * addresses in one call, and a user page under SMEP and SMAP; and a journal of the faults. It may be copied; it compiles as C11
+ * and as C++17. Link it with libpastrulow.a.
  */
 #include <inttypes.h>
 #include <stdio.h>
@@ -20,6 +20,7 @@ static uint8_t image[PASTRULOW_IMAGE_BYTES];
 static uint8_t memory[6 * PASTRULOW_PAGE_BYTES];
 static uint8_t record[PASTRULOW_ANSWER_BYTES];
 static uint8_t journal[PASTRULOW_JOURNAL_BYTES];
+static uint64_t ac; /* the processor's AC flag, which STAC sets and CLAC clears */
 
 static void store(uint64_t physical, uint64_t word)
 {
@@ -50,6 +51,11 @@ static void must(uint64_t refusal, const char *what)
     exit(1);
 }
 
+static void write_mode(uint64_t flags)
+{
+    must(pastrulow_write_mode(image, sizeof image, flags, record, sizeof record), "mode write");
+}
+
 static void write_cr3(uint64_t value)
 {
     must(pastrulow_write_cr3(image, sizeof image, value, record, sizeof record), "CR3 write");
@@ -70,7 +76,7 @@ static void load_state(uint64_t width, uint64_t flags, uint64_t cr3)
 {
     must(pastrulow_start(image, sizeof image, width, record, sizeof record), "start");
     write_cr3(cr3 & ~PASTRULOW_CR3_PCID);
-    must(pastrulow_write_mode(image, sizeof image, flags, record, sizeof record), "mode write");
+    write_mode(flags);
     write_cr3(cr3);
 }
 
@@ -87,7 +93,7 @@ static void report_fault(uint64_t address, uint64_t code)
 
 static struct pastrulow_answer translate(uint64_t kind, uint64_t address)
 {
-    pastrulow_translate(image, sizeof image, memory, sizeof memory, kind, address, record, sizeof record);
+    pastrulow_translate(image, sizeof image, memory, sizeof memory, kind, address, ac, record, sizeof record);
     struct pastrulow_answer answer = pastrulow_read_answer(record);
     if (answer.kind == PASTRULOW_FAULT)
         report_fault(address, answer.value);
@@ -96,7 +102,7 @@ static struct pastrulow_answer translate(uint64_t kind, uint64_t address)
 
 static const char *const names[] = {"read", "write", "fetch", "user read", "user write", "user fetch"};
 
-/* The access as a code tells it. With NXE off it would tell a fetch as a read. */
+/* The access as a code tells it. With NXE and SMEP off it would tell a fetch as a read. */
 static const char *access_told(uint64_t code)
 {
     uint64_t user = code & PASTRULOW_CODE_USER ? PASTRULOW_USER_READ : PASTRULOW_READ;
@@ -214,6 +220,21 @@ static void show_many(void)
         show_answer(PASTRULOW_FETCH, asked[i], pastrulow_read_answer(answers + PASTRULOW_ANSWER_BYTES * i));
 }
 
+/* What is held stays, and is judged by the flags and AC of now. */
+static void show_user_page(void)
+{
+    printf("SMEP and SMAP are turned on: the supervisor is kept off user pages\n");
+    write_mode(FLAGS | PASTRULOW_PCIDE | PASTRULOW_SMEP | PASTRULOW_SMAP);
+    access_memory(PASTRULOW_USER_READ, 0x212345); /* still held */
+    access_memory(PASTRULOW_READ, 0x212345);
+    printf("AC is set, as a kernel does that copies from the user's memory\n");
+    ac = 1;
+    access_memory(PASTRULOW_READ, 0x212345); /* walked: the fault dropped what was held */
+    access_memory(PASTRULOW_READ, 0x212345);
+    access_memory(PASTRULOW_FETCH, 0x212345);
+    ac = 0;
+}
+
 static void show_record(size_t number)
 {
     struct pastrulow_journal_record fault = pastrulow_read_journal_record(journal, number);
@@ -245,6 +266,7 @@ int main(void)
     show_cr3_switch();
     show_saved_state();
     show_many();
+    show_user_page();
     show_journal();
     return 0;
 }

@@ -41,8 +41,10 @@ extern "C" {
  * declarations below against the archive. A call that is new raises nothing: with an archive that lacks it a host does not
  * link.
  *   2: a fault's code has PASTRULOW_CODE_FETCH only while NXE is on; in version 1 every fetch had it
+ *   3: translate takes AC, after the address; SMEP and SMAP are flags, and with SMEP on a fetch's fault has
+ *      PASTRULOW_CODE_FETCH too
  */
-#define PASTRULOW_VERSION UINT64_C(2)
+#define PASTRULOW_VERSION UINT64_C(3)
 uint64_t pastrulow_version(void);
 
 /* Lengths in bytes. Guest memory is lent in whole pages, from physical address 0 up. */
@@ -64,6 +66,8 @@ uint64_t pastrulow_version(void);
 #define PASTRULOW_PGE UINT64_C(4)    /* global pages */
 #define PASTRULOW_PCIDE UINT64_C(8)  /* the low 12 bits of CR3 are the PCID */
 #define PASTRULOW_NXE UINT64_C(16)   /* bit 63 of an entry bars fetches; reserved while this is off */
+#define PASTRULOW_SMEP UINT64_C(32)  /* the supervisor fetches from no user page */
+#define PASTRULOW_SMAP UINT64_C(64)  /* the supervisor reads and writes no user page, unless AC is set */
 
 /* Parts of a value for CR3: the PCID, while PCIDE is on; and bit 63, to drop nothing, which is not stored. */
 #define PASTRULOW_CR3_PCID UINT64_C(0xFFF)
@@ -94,7 +98,8 @@ uint64_t pastrulow_version(void);
 #define PASTRULOW_CODE_WRITE UINT64_C(2)     /* the access was a write */
 #define PASTRULOW_CODE_USER UINT64_C(4)      /* the access was a user's */
 #define PASTRULOW_CODE_RESERVED UINT64_C(8)  /* a reserved bit was set */
-#define PASTRULOW_CODE_FETCH UINT64_C(16)    /* the access was a fetch, with NXE on; with NXE off a fetch has a read's code */
+#define PASTRULOW_CODE_FETCH UINT64_C(16)    /* the access was a fetch, with NXE or SMEP on; with both off a fetch has a read's
+                                                code */
 
 /*
  * Refusals of the translator's calls; the journal's is below. If several apply, the lowest is given, but 10 before all others.
@@ -119,13 +124,19 @@ uint64_t pastrulow_version(void);
 /* Makes a new image for a machine of this physical width: paging off, buffer empty. What the image held before is not read. */
 uint64_t pastrulow_start(uint8_t *image, size_t image_len, uint64_t width, uint8_t *answer, size_t answer_len);
 
-/* Translates an address for one access, from the buffer or by a walk that sets accessed and dirty bits in guest memory. */
+/*
+ * Translates an address for one access, from the buffer or by a walk that sets accessed and dirty bits in guest memory. AC is
+ * the processor's flag of that name (bit 18 of RFLAGS), set by any number but 0, so that rflags & 0x40000 will do; it is asked
+ * for only by a supervisor's read or write while SMAP is on. A page is a user page if each entry that leads to it says so.
+ * Which rights are needed goes by the flags and by AC of now, of a page that is held too.
+ */
 uint64_t pastrulow_translate(uint8_t *image, size_t image_len, uint8_t *memory, size_t memory_len, uint64_t kind,
-                             uint64_t address, uint8_t *answer, size_t answer_len);
+                             uint64_t address, uint64_t ac, uint8_t *answer, size_t answer_len);
 
 /*
  * Translates up to 64 addresses in one call. The pairs, which pastrulow_put_pair writes, are judged one after the other:
- * records, image and guest memory are those of as many calls of translate in that order, each lent what the one before left.
+ * records, image and guest memory are those of as many calls of translate in that order, with AC 0, each lent what the one
+ * before left.
  * The answers are a record of 32 bytes a pair, in the pairs' order, which a host reads one by one:
  * pastrulow_read_answer(answers + PASTRULOW_ANSWER_BYTES * i).
  * The call's own number is 10, and then nothing is written, or 0, whatever the records say: refusals from 2 on stand in the
@@ -145,7 +156,8 @@ uint64_t pastrulow_invpcid(uint8_t *image, size_t image_len, uint64_t type, uint
 /* A write to CR3: sets the table root and the PCID, and drops that PCID's pages that are not global unless bit 63 says keep. */
 uint64_t pastrulow_write_cr3(uint8_t *image, size_t image_len, uint64_t value, uint8_t *answer, size_t answer_len);
 
-/* Sets all five flags; drops everything if PG, PGE, PCIDE or NXE changes. */
+/* Sets all seven flags; drops everything if PG, PGE, PCIDE or NXE changes, and nothing if only WP, SMEP or SMAP does: by these
+   rights are judged, at each translate anew. */
 uint64_t pastrulow_write_mode(uint8_t *image, size_t image_len, uint64_t flags, uint8_t *answer, size_t answer_len);
 
 /*

@@ -29,12 +29,14 @@ static uint64_t random_flags(struct random *random, const struct guest *guest)
     uint64_t which = random_below(random, 100);
     if (which < 60)
         return guest->flags;
-    if (which < 78)
+    if (which < 68)
         return guest->flags ^ PASTRULOW_WP;
+    if (which < 78)
+        return guest->flags ^ (random_percent(random, 50) ? PASTRULOW_SMEP : PASTRULOW_SMAP);
     if (which < 86)
-        return guest->flags ^ UINT64_C(1) << random_below(random, 5);
+        return guest->flags ^ UINT64_C(1) << random_below(random, 7);
     if (which < 95)
-        return random_below(random, 32) | (random_percent(random, 80) ? PASTRULOW_PG : 0);
+        return random_below(random, 128) | (random_percent(random, 80) ? PASTRULOW_PG : 0);
     return UINT64_C(1) << random_below(random, 64);
 }
 
@@ -59,6 +61,14 @@ static uint64_t random_kind(struct random *random)
     if (random_percent(random, 1))
         return kind | UINT64_C(1) << (3 + random_below(random, 61));
     return random_percent(random, 3) ? odd_word(random) : kind;
+}
+
+/* As often set as not, by 1 or by any other number. */
+static uint64_t random_ac(struct random *random)
+{
+    if (random_percent(random, 50))
+        return 0;
+    return random_percent(random, 50) ? 1 : UINT64_C(1) << random_below(random, 64);
 }
 
 /* Mostly few pairs, and often as many as are a limit. The answers are for each whole pair, or twice as long as the pairs, which
@@ -88,6 +98,7 @@ static void random_numbers(struct random *random, const struct guest *guest, str
     case TRANSLATE:
         call->numbers[0] = random_kind(random);
         call->numbers[1] = guest_address(random, guest);
+        call->numbers[2] = random_ac(random);
         break;
     case TRANSLATE_MANY:
         random_pairs(random, guest, call);
@@ -151,7 +162,8 @@ uint64_t call_door(const struct call *call, struct lent *lent)
     case START:
         return pastrulow_start(image, call->image_len, n[0], answer, call->answer_len);
     case TRANSLATE:
-        return pastrulow_translate(image, call->image_len, memory, call->memory_len, n[0], n[1], answer, call->answer_len);
+        return pastrulow_translate(image, call->image_len, memory, call->memory_len, n[0], n[1], n[2], answer,
+                                   call->answer_len);
     case TRANSLATE_MANY:
         return pastrulow_translate_many(image, call->image_len, memory, call->memory_len, lent->bytes + lent->pairs,
                                         call->pairs_len, answer, call->answer_len);
@@ -176,7 +188,7 @@ uint64_t call_model(const struct call *call, struct lent *lent)
     case START:
         return model_start(image, call->image_len, n[0], answer, call->answer_len);
     case TRANSLATE:
-        return model_translate(image, call->image_len, memory, call->memory_len, n[0], n[1], answer, call->answer_len);
+        return model_translate(image, call->image_len, memory, call->memory_len, n[0], n[1], n[2], answer, call->answer_len);
     case TRANSLATE_MANY:
         return model_translate_many(image, call->image_len, memory, call->memory_len, lent->bytes + lent->pairs,
                                     call->pairs_len, answer, call->answer_len);

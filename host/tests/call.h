@@ -9,7 +9,7 @@ enum call_name { START, TRANSLATE, TRANSLATE_MANY, INVLPG, INVPCID, WRITE_CR3, W
 
 struct call {
     enum call_name name;
-    uint64_t numbers[3]; /* width; kind, address; none; address; type, PCID, address; value; flags */
+    uint64_t numbers[3]; /* width; kind, address, AC; none; address; type, PCID, address; value; flags */
     uint8_t pairs[LENT_PAIRS];
     size_t image_len, memory_len, pairs_len, answer_len;
 };

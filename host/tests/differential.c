@@ -110,7 +110,7 @@ static void make_control(struct random *random)
 {
     switch (random_below(random, 4)) {
     case 0:
-        put_both_image(1, random_below(random, 32));
+        put_both_image(1, random_below(random, 128));
         break;
     case 1:
         put_both_image(2, random_word(random));
@@ -133,7 +133,7 @@ static unsigned damage(struct random *random)
         put_both_image(0, widths[random_below(random, 4)]);
         return 0;
     case 1:
-        put_both_image(1, lent_image_word(&door_side, 1) | UINT64_C(1) << (5 + random_below(random, 59)));
+        put_both_image(1, lent_image_word(&door_side, 1) | UINT64_C(1) << (7 + random_below(random, 57)));
         return 1;
     case 2:
         put_both_image(3, lent_image_word(&door_side, 3) | UINT64_C(1) << (50 + random_below(random, 14)));

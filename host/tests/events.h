@@ -12,9 +12,12 @@
     X(HIT_1G, "hit, 1 GiB page")                                                      \
     X(HIT_GLOBAL_OTHER, "hit, global slot tagged with another PCID")                  \
     X(HIT_FALSE_WP, "hit, supervisor's write to a read-only page with WP off")        \
+    X(HIT_AC, "hit, user page under SMAP with AC set")                                \
     X(HIT_WRITE, "hit, write to a dirty slot")                                        \
     X(HIT_SECOND, "hit with a further match behind it")                               \
     X(MATCH_BARRED, "first match does not allow the access")                          \
+    X(MATCH_SMEP, "first match is kept off by SMEP")                                  \
+    X(MATCH_SMAP, "first match is kept off by SMAP")                                  \
     X(MATCH_CLEAN, "first match allows the write but is clean (upgrade)")             \
     X(MISS_DROP_4K, "4 KiB slots dropped before a walk")                              \
     X(MISS_DROP_2M, "2 MiB slots dropped before a walk")                              \
@@ -46,9 +49,12 @@
     X(FETCH_TOLD_ABSENT, "fetch's fault with NXE on, not present")                    \
     X(FETCH_TOLD_RESERVED, "fetch's fault with NXE on, reserved bit")                 \
     X(FETCH_TOLD_PROTECTED, "fetch's fault with NXE on, protection")                  \
-    X(FETCH_UNTOLD_ABSENT, "fetch's fault with NXE off, not present")                 \
-    X(FETCH_UNTOLD_RESERVED, "fetch's fault with NXE off, reserved bit")              \
-    X(FETCH_UNTOLD_PROTECTED, "fetch's fault with NXE off, protection")               \
+    X(FETCH_BY_SMEP_ABSENT, "fetch's fault with NXE off and SMEP on, not present")    \
+    X(FETCH_BY_SMEP_RESERVED, "fetch's fault with NXE off and SMEP on, reserved bit") \
+    X(FETCH_BY_SMEP_PROTECTED, "fetch's fault with NXE off and SMEP on, protection")  \
+    X(FETCH_UNTOLD_ABSENT, "fetch's fault with NXE and SMEP off, not present")        \
+    X(FETCH_UNTOLD_RESERVED, "fetch's fault with NXE and SMEP off, reserved bit")     \
+    X(FETCH_UNTOLD_PROTECTED, "fetch's fault with NXE and SMEP off, protection")      \
     X(RESERVED_BY_WIDTH, "reserved: a bit of 51..M")                                  \
     X(RESERVED_BY_XD, "reserved: bit 63 with NXE off")                                \
     X(RESERVED_BY_LENGTH, "reserved: a bit below a large page's base")                \
@@ -57,8 +63,14 @@
     X(BARRED_USER, "protection: user access to a supervisor's page")                  \
     X(BARRED_WRITE, "protection: write to a read-only page")                          \
     X(BARRED_FETCH, "protection: fetch from a page with bit 63")                      \
+    X(BARRED_SMEP, "protection: supervisor's fetch from a user page by SMEP")         \
+    X(BARRED_SMAP, "protection: supervisor's access to a user page by SMAP")          \
+    X(BARRED_SMAP_FALSE_WP, "protection: supervisor's write by SMAP with WP off")     \
     X(BARRED_ABOVE, "protection: only an upper entry forbids it")                     \
     X(WALK_FALSE_WP, "walk, supervisor's write to a read-only page with WP off")      \
+    X(SPARED_AC, "walk, user page under SMAP with AC set")                            \
+    X(SPARED_USER, "walk, user's access under SMEP or SMAP")                          \
+    X(SPARED_SUPERVISOR, "walk, page that is not user under SMEP or SMAP")            \
     X(OUTSIDE_1, "entry outside guest memory, level 1")                               \
     X(OUTSIDE_2, "entry outside guest memory, level 2")                               \
     X(OUTSIDE_3, "entry outside guest memory, level 3")                               \
@@ -135,11 +147,13 @@
     X(CR3_SPARES_OTHER, "CR3 write spares another PCID's slot")                       \
     X(MODE_1, "mode write refused 1")                                                 \
     X(MODE_2, "mode write refused 2")                                                 \
-    X(MODE_7_VALUE, "mode write refused 7, value above 31")                           \
+    X(MODE_7_VALUE, "mode write refused 7, value above 127")                          \
     X(MODE_7_PG, "mode write refused 7, PCIDE without PG")                            \
     X(MODE_7_CR3, "mode write refused 7, PCIDE turned on over CR3's low bits")        \
     X(MODE_DROP, "mode write drops a slot")                                           \
-    X(MODE_KEEPS, "mode write that changes WP alone and keeps slots")                 \
+    X(MODE_KEEPS, "mode write that changes WP and keeps slots")                       \
+    X(MODE_KEEPS_SMEP, "mode write that changes SMEP and keeps slots")                \
+    X(MODE_KEEPS_SMAP, "mode write that changes SMAP and keeps slots")                \
     X(IMAGE_LENGTH, "refusal 2 by the image's length")                                \
     X(IMAGE_WIDTH, "refusal 2 by word 0")                                             \
     X(IMAGE_FLAGS, "refusal 2 by word 1")                                             \

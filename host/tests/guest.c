@@ -165,6 +165,10 @@ struct guest guest_make(struct random *random)
     guest.flags = PASTRULOW_PG | random_below(random, 32);
     if (random_percent(random, 60))
         guest.flags |= PASTRULOW_NXE;
+    if (random_percent(random, 35))
+        guest.flags |= PASTRULOW_SMEP;
+    if (random_percent(random, 35))
+        guest.flags |= PASTRULOW_SMAP;
     bool one_set = random_percent(random, 50); /* indexes alike modulo the number of sets */
     for (unsigned i = 0; i < GUEST_INDEXES; i++)
         guest.indexes[i] = (unsigned)(one_set && i > 0 ? (guest.indexes[0] + 16 * random_below(random, 32)) % 512

@@ -79,7 +79,7 @@ static void fault_at_each_level(void)
     machine.memory_len = sizeof memory;
     load_state(40, PASTRULOW_PG, 0x1000);
     for (uint64_t level = 4; level > 0; level--) {
-        struct pastrulow_answer fault = machine_translate(&machine, PASTRULOW_READ, 0);
+        struct pastrulow_answer fault = machine_translate(&machine, PASTRULOW_READ, 0, 0);
         check("kind", fault.kind, PASTRULOW_FAULT);
         check("level", 5 - fault.read, level);
         uint64_t table = (5 - level) * PASTRULOW_PAGE_BYTES;

@@ -58,7 +58,7 @@ static void switch_root(struct random *random, unsigned root)
 static bool faults(struct random *random, const struct attempt *attempt)
 {
     switch_root(random, attempt->root);
-    return machine_translate(&machine, attempt->kind, attempt->page).kind == PASTRULOW_FAULT;
+    return machine_translate(&machine, attempt->kind, attempt->page, 0).kind == PASTRULOW_FAULT;
 }
 
 /* The first 70 accesses that fault, by root, page and kind. */
@@ -89,7 +89,7 @@ static bool start_guest(struct random *random)
 static bool report_fault(struct random *random, const struct attempt *attempt)
 {
     uint64_t address = attempt->page + random_below(random, 4096);
-    struct pastrulow_answer answer = machine_translate(&machine, attempt->kind, address);
+    struct pastrulow_answer answer = machine_translate(&machine, attempt->kind, address, 0);
     uint64_t root = pastrulow_root(machine.image);
     if (answer.kind != PASTRULOW_FAULT || root != roots[attempt->root]) {
         printf("journal: at 0x%" PRIx64 " kind %" PRIu64 ", no fault or a wrong root, 0x%" PRIx64 "\n", address, attempt->kind,

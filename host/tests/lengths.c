@@ -14,7 +14,7 @@ static uint8_t pairs[PAIRS_ROOM], answers[ANSWERS_ROOM];
 static void no_answer(void)
 {
     check("start", pastrulow_start(image, sizeof image, 40, NULL, 0), 1);
-    check("translate", pastrulow_translate(image, sizeof image, NULL, 0, 0, 0, NULL, 0), 1);
+    check("translate", pastrulow_translate(image, sizeof image, NULL, 0, 0, 0, 0, NULL, 0), 1);
     check("INVLPG", pastrulow_invlpg(image, sizeof image, 0, NULL, 0), 1);
     check("INVPCID", pastrulow_invpcid(image, sizeof image, 0, 0, 0, NULL, 0), 1);
     check("CR3 write", pastrulow_write_cr3(image, sizeof image, 0, NULL, 0), 1);
@@ -24,7 +24,7 @@ static void no_answer(void)
 static void no_image(void)
 {
     check("start", pastrulow_start(NULL, 0, 40, answer, sizeof answer), 2);
-    check("translate", pastrulow_translate(NULL, 0, NULL, 0, 0, 0, answer, sizeof answer), 2);
+    check("translate", pastrulow_translate(NULL, 0, NULL, 0, 0, 0, 0, answer, sizeof answer), 2);
     check("INVLPG", pastrulow_invlpg(NULL, 0, 0, answer, sizeof answer), 2);
     check("INVPCID", pastrulow_invpcid(NULL, 0, 0, 0, 0, answer, sizeof answer), 2);
     check("CR3 write", pastrulow_write_cr3(NULL, 0, 0, answer, sizeof answer), 2);
@@ -36,7 +36,7 @@ static void no_memory(void)
 {
     check("start", pastrulow_start(image, sizeof image, 52, answer, sizeof answer), 0);
     check("mode write", pastrulow_write_mode(image, sizeof image, PASTRULOW_PG | PASTRULOW_NXE, answer, sizeof answer), 0);
-    check("translate", pastrulow_translate(image, sizeof image, NULL, 0, PASTRULOW_READ, 0, answer, sizeof answer), 0);
+    check("translate", pastrulow_translate(image, sizeof image, NULL, 0, PASTRULOW_READ, 0, 0, answer, sizeof answer), 0);
     struct pastrulow_answer fault = pastrulow_read_answer(answer);
     check("kind", fault.kind, PASTRULOW_FAULT);
     check("value", fault.value, PASTRULOW_CODE_PRESENT | PASTRULOW_CODE_RESERVED);

@@ -22,10 +22,10 @@ struct pastrulow_answer machine_start(struct machine *machine, uint64_t width)
     return read_record(pastrulow_start(machine->image, sizeof machine->image, width, record, sizeof record));
 }
 
-struct pastrulow_answer machine_translate(struct machine *machine, uint64_t kind, uint64_t address)
+struct pastrulow_answer machine_translate(struct machine *machine, uint64_t kind, uint64_t address, uint64_t ac)
 {
     return read_record(pastrulow_translate(machine->image, sizeof machine->image, machine->memory, machine->memory_len,
-                                           kind, address, record, sizeof record));
+                                           kind, address, ac, record, sizeof record));
 }
 
 struct pastrulow_answer machine_invlpg(struct machine *machine, uint64_t address)

@@ -15,7 +15,7 @@ struct machine {
 
 /* Each of these ends the program if the number returned is not the one that the record says. */
 struct pastrulow_answer machine_start(struct machine *machine, uint64_t width);
-struct pastrulow_answer machine_translate(struct machine *machine, uint64_t kind, uint64_t address);
+struct pastrulow_answer machine_translate(struct machine *machine, uint64_t kind, uint64_t address, uint64_t ac);
 struct pastrulow_answer machine_invlpg(struct machine *machine, uint64_t address);
 struct pastrulow_answer machine_invpcid(struct machine *machine, uint64_t type, uint64_t pcid, uint64_t address);
 struct pastrulow_answer machine_write_cr3(struct machine *machine, uint64_t value);

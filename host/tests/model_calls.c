@@ -39,7 +39,7 @@ unsigned image_flaws(const uint8_t *image, size_t image_len)
     bool bad_rest = false;
     for (unsigned i = 0; i < REST_WORDS; i++)
         bad_rest = bad_rest || state.rest[i] != 0;
-    bool bad_flags = bits(state.flags, 63, 5) != 0;
+    bool bad_flags = bits(state.flags, 63, 7) != 0;
     bool bad_victims = bits(state.victims, 63, 50) != 0;
     return (unsigned)!width_allowed(state.width) << 1 | (unsigned)bad_flags << 2 | (unsigned)bad_victims << 3 |
            (unsigned)bad_rest << 4;
@@ -204,6 +204,16 @@ static void drop_all(struct state *state)
     }
 }
 
+static void count_kept(const struct state *before, const struct state *after)
+{
+    if (after->wp != before->wp)
+        event(EVENT_MODE_KEEPS);
+    if (after->smep != before->smep)
+        event(EVENT_MODE_KEEPS_SMEP);
+    if (after->smap != before->smap)
+        event(EVENT_MODE_KEEPS_SMAP);
+}
+
 uint64_t model_write_mode(uint8_t *image, size_t image_len, uint64_t flags, uint8_t *answer, size_t answer_len)
 {
     if (answer_len != 32)
@@ -213,7 +223,7 @@ uint64_t model_write_mode(uint8_t *image, size_t image_len, uint64_t flags, uint
     struct state before = decode(image);
     struct state after = before;
     set_flags(&after, flags);
-    if (flags > 31)
+    if (flags > 127)
         return refused(answer, 7, EVENT_MODE_7_VALUE);
     if (after.pcide && !after.pg)
         return refused(answer, 7, EVENT_MODE_7_PG);
@@ -221,7 +231,7 @@ uint64_t model_write_mode(uint8_t *image, size_t image_len, uint64_t flags, uint
         return refused(answer, 7, EVENT_MODE_7_CR3);
     if (after.pg != before.pg || after.pge != before.pge || after.pcide != before.pcide || after.nxe != before.nxe)
         drop_all(&after);
-    else if (after.wp != before.wp)
-        event(EVENT_MODE_KEEPS);
+    else
+        count_kept(&before, &after);
     return done(image, &after, answer);
 }

@@ -41,6 +41,8 @@ void set_flags(struct state *state, uint64_t flags)
     state->pge = bit(flags, 2);
     state->pcide = bit(flags, 3);
     state->nxe = bit(flags, 4);
+    state->smep = bit(flags, 5);
+    state->smap = bit(flags, 6);
 }
 
 struct state decode(const uint8_t *image)

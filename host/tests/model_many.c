@@ -112,7 +112,7 @@ uint64_t model_translate_many(uint8_t *image, size_t image_len, uint8_t *memory,
     batch.under_way = true;
     for (size_t i = 0; i < pairs_len / 16; i++) {
         uint64_t kind = word_at(pairs + 16 * i), address = word_at(pairs + 16 * i + 8);
-        model_translate(image, image_len, memory, memory_len, kind, address, answers + 32 * i, 32);
+        model_translate(image, image_len, memory, memory_len, kind, address, 0, answers + 32 * i, 32);
         count_record(answers + 32 * i, i == 0 ? DONE : word_at(answers + 32 * (i - 1)));
     }
     if (batch.refused[3] && batch.refused[4])

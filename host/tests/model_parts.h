@@ -18,8 +18,8 @@ struct slot {
 
 struct state {
     uint64_t width;
-    bool pg, wp, pge, pcide, nxe;
-    uint64_t flags; /* word 1 whole; the five bools are its bits */
+    bool pg, wp, pge, pcide, nxe, smep, smap;
+    uint64_t flags; /* word 1 whole; the seven bools are its bits */
     uint64_t cr3;
     uint64_t victims;
     struct slot slots[SLOTS];
@@ -27,7 +27,7 @@ struct state {
 };
 
 struct access {
-    bool write, fetch, user;
+    bool write, fetch, user, ac;
 };
 
 struct memory {
@@ -64,7 +64,8 @@ void set_flags(struct state *state, uint64_t flags);
 struct state decode(const uint8_t *image);
 void encode(const struct state *state, uint8_t *image);
 
-/* Rights. */
+/* Rights. The supervisor is kept off user pages: a fetch by SMEP, a read or a write by SMAP unless AC is set. */
+bool kept_off(const struct state *state, struct access access);
 bool allows(const struct state *state, struct access access, struct rights rights);
 
 /* The walk; marks guest memory if it succeeds. */

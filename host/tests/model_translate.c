@@ -17,6 +17,8 @@ static bool serves(const struct state *state, struct access access, unsigned num
     struct slot slot = state->slots[number];
     if (!allows(state, access, slot_rights(slot))) {
         event(EVENT_MATCH_BARRED);
+        if (slot_rights(slot).user && kept_off(state, access))
+            event(access.fetch ? EVENT_MATCH_SMEP : EVENT_MATCH_SMAP);
         return false;
     }
     if (access.write && !slot_dirty(slot)) {
@@ -35,6 +37,8 @@ static void count_hit(const struct state *state, struct access access, uint64_t 
         event(EVENT_HIT_GLOBAL_OTHER);
     if (access.write)
         event(slot_rights(slot).writable ? EVENT_HIT_WRITE : EVENT_HIT_FALSE_WP);
+    if (state->smap && access.ac && !access.user && !access.fetch && slot_rights(slot).user)
+        event(EVENT_HIT_AC);
     for (unsigned i = number + 1; i < SLOTS; i++)
         if (slot_matches(state, i, address)) {
             event(EVENT_HIT_SECOND);
@@ -68,14 +72,19 @@ static void drop_matches(struct state *state, uint64_t address)
 
 static void count_fetch_fault(const struct state *state, enum cause cause)
 {
-    event((state->nxe ? EVENT_FETCH_TOLD_ABSENT : EVENT_FETCH_UNTOLD_ABSENT) + (cause - NOT_PRESENT));
+    enum event first = EVENT_FETCH_UNTOLD_ABSENT;
+    if (state->nxe)
+        first = EVENT_FETCH_TOLD_ABSENT;
+    else if (state->smep)
+        first = EVENT_FETCH_BY_SMEP_ABSENT;
+    event(first + (cause - NOT_PRESENT));
 }
 
 static uint64_t fault_code(const struct state *state, struct access access, enum cause cause)
 {
     if (access.fetch)
         count_fetch_fault(state, cause);
-    bool fetch_told = access.fetch && state->nxe;
+    bool fetch_told = access.fetch && (state->nxe || state->smep);
     return (uint64_t)(cause != NOT_PRESENT) | (uint64_t)access.write << 1 | (uint64_t)access.user << 2 |
            (uint64_t)(cause == RESERVED) << 3 | (uint64_t)fetch_told << 4;
 }
@@ -103,7 +112,7 @@ static void translate_paged(struct state *state, struct memory memory, struct ac
 }
 
 uint64_t model_translate(uint8_t *image, size_t image_len, uint8_t *memory, size_t memory_len, uint64_t kind,
-                         uint64_t address, uint8_t *answer, size_t answer_len)
+                         uint64_t address, uint64_t ac, uint8_t *answer, size_t answer_len)
 {
     if (answer_len != 32)
         return refused(answer, 1, EVENT_TRANSLATE_1);
@@ -123,7 +132,7 @@ uint64_t model_translate(uint8_t *image, size_t image_len, uint8_t *memory, size
         put_answer(answer, ADDRESS, address, 0, 0);
         return 0;
     }
-    struct access access = {kind % 3 == 1, kind % 3 == 2, kind >= 3};
+    struct access access = {kind % 3 == 1, kind % 3 == 2, kind >= 3, ac != 0};
     struct memory guest = {memory, memory_len};
     translate_paged(&state, guest, access, address, answer);
     encode(&state, image);

@@ -64,6 +64,13 @@ static struct rights rights_over(const struct entry *entries, unsigned read)
     return rights;
 }
 
+bool kept_off(const struct state *state, struct access access)
+{
+    if (access.user)
+        return false;
+    return access.fetch ? state->smep : state->smap && !access.ac;
+}
+
 bool allows(const struct state *state, struct access access, struct rights rights)
 {
     if (access.user && !rights.user)
@@ -71,6 +78,8 @@ bool allows(const struct state *state, struct access access, struct rights right
     if (access.write && !rights.writable && (access.user || state->wp))
         return false;
     if (access.fetch && !rights.executable)
+        return false;
+    if (rights.user && kept_off(state, access))
         return false;
     return true;
 }
@@ -105,8 +114,24 @@ static void count_barred(const struct state *state, struct access access, struct
         event(EVENT_BARRED_WRITE);
     if (access.fetch && !rights.executable)
         event(EVENT_BARRED_FETCH);
+    if (rights.user && kept_off(state, access))
+        event(access.fetch ? EVENT_BARRED_SMEP : access.write && !state->wp ? EVENT_BARRED_SMAP_FALSE_WP : EVENT_BARRED_SMAP);
     if (allows(state, access, last))
         event(EVENT_BARRED_ABOVE);
+}
+
+/* An access that SMEP or SMAP could have kept off the page. */
+static void count_let_through(const struct state *state, struct access access, struct rights rights)
+{
+    bool flag = access.fetch ? state->smep : state->smap;
+    if (!flag)
+        return;
+    if (access.user)
+        event(EVENT_SPARED_USER);
+    else if (rights.user)
+        event(EVENT_SPARED_AC);
+    else
+        event(EVENT_SPARED_SUPERVISOR);
 }
 
 static void count_success(struct access access, const struct entry *entries, const struct walked *walked)
@@ -140,6 +165,7 @@ static void judge(const struct state *state, struct memory memory, struct access
     unsigned from = low[walked->size];
     walked->base = bits(last->word, (unsigned)state->width - 1, from) << from;
     walked->global = state->pge && bit(last->word, 8);
+    count_let_through(state, access, walked->rights);
     count_success(access, entries, walked);
     mark(memory, access, entries, walked);
     walked->dirty = last->outside ? true : bit(word_at(memory.bytes + last->address), 6);

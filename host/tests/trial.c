@@ -37,13 +37,13 @@ static void check_word(uint64_t address, uint64_t expected)
 static void gives_address(uint64_t kind, uint64_t address, uint64_t value, uint64_t size, uint64_t read)
 {
     struct pastrulow_answer expected = {PASTRULOW_ADDRESS, value, size, read};
-    check("translate", machine_translate(&machine, kind, address), expected);
+    check("translate", machine_translate(&machine, kind, address, 0), expected);
 }
 
 static void faults(uint64_t kind, uint64_t address, uint64_t code, uint64_t read)
 {
     struct pastrulow_answer expected = {PASTRULOW_FAULT, code, 0, read};
-    check("translate", machine_translate(&machine, kind, address), expected);
+    check("translate", machine_translate(&machine, kind, address, 0), expected);
 }
 
 static void is_done(const char *what, struct pastrulow_answer got)
@@ -133,7 +133,7 @@ static void large_pages(void)
 static void edges(void)
 {
     afresh("0x0000800000000000");
-    is_refused("translate", machine_translate(&machine, 0, UINT64_C(0x0000800000000000)), 5);
+    is_refused("translate", machine_translate(&machine, 0, UINT64_C(0x0000800000000000), 0), 5);
     afresh("kind 0 at 0x00007FFFFFFFFFFF");
     faults(0, UINT64_C(0x00007FFFFFFFFFFF), 0, 1);
     afresh("CR3 0x7000, kind 0 at 0");

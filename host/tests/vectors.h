@@ -7,7 +7,7 @@
 
 #include "machine.h"
 
-enum { VECTOR_MEMORY = 64 * 1024, VECTOR_FLAGS = 0x1f };
+enum { VECTOR_MEMORY = 64 * 1024 };
 
 /* Opens a file or ends the program. */
 FILE *open_vectors(int count, char **arguments, int which, const char *usage);

@@ -14,7 +14,7 @@ struct single {
 static uint8_t memory[VECTOR_MEMORY], expected_memory[VECTOR_MEMORY];
 static struct machine machine = {.memory = memory, .memory_len = VECTOR_MEMORY};
 static struct machine expected = {.memory = expected_memory, .memory_len = VECTOR_MEMORY};
-static unsigned long made, addresses, faults, refusals, hits, newer_flags, ac_set, beyond_memory, failed;
+static unsigned long made, newer_flags, ac_set, addresses, faults, refusals, hits, beyond_memory, failed;
 
 static void wrong(const struct single *single, const char *what, struct pastrulow_answer came)
 {
@@ -24,23 +24,10 @@ static void wrong(const struct single *single, const char *what, struct pastrulo
     failed++;
 }
 
-static bool applies(const struct single *single)
-{
-    if (single->beyond)
-        beyond_memory++;
-    else if (single->flags > VECTOR_FLAGS)
-        newer_flags++;
-    else if (single->ac != 0)
-        ac_set++;
-    else
-        return true;
-    return false;
-}
-
 /* The access once more: a page that was found is held now. */
 static void make_again(const struct single *single)
 {
-    struct pastrulow_answer again = machine_translate(&machine, single->kind, single->address);
+    struct pastrulow_answer again = machine_translate(&machine, single->kind, single->address, single->ac);
     if (!same_result(again, single->result) || (again.kind == PASTRULOW_ADDRESS && again.read != 0))
         wrong(single, "the same access again", again);
     hits += again.kind == PASTRULOW_ADDRESS && again.read == 0;
@@ -49,13 +36,15 @@ static void make_again(const struct single *single)
 static void make(const struct single *single)
 {
     made++;
+    newer_flags += single->flags >= PASTRULOW_SMEP;
+    ac_set += single->ac != 0;
     if (machine_start(&machine, single->width).kind != PASTRULOW_DONE ||
         machine_write_mode(&machine, single->flags).kind != PASTRULOW_DONE ||
         machine_write_cr3(&machine, single->cr3).kind != PASTRULOW_DONE) {
         wrong(single, "setting up was refused", single->result);
         return;
     }
-    struct pastrulow_answer answer = machine_translate(&machine, single->kind, single->address);
+    struct pastrulow_answer answer = machine_translate(&machine, single->kind, single->address, single->ac);
     addresses += answer.kind == PASTRULOW_ADDRESS;
     faults += answer.kind == PASTRULOW_FAULT;
     refusals += answer.kind == PASTRULOW_REFUSED;
@@ -89,7 +78,9 @@ static void take_line(struct single *single, const char *line)
 static void end_case(struct single *single)
 {
     struct single none = {0};
-    if (single->width != 0 && applies(single))
+    if (single->beyond)
+        beyond_memory++;
+    else if (single->width != 0)
         make(single);
     *single = none;
     memset(memory, 0, sizeof memory);
@@ -110,8 +101,8 @@ int main(int count, char **arguments)
     fclose(file);
     printf("bochs: %lu accesses made: %lu addresses, %lu faults, %lu refused; %lu hits when made again\n", made, addresses,
            faults, refusals, hits);
-    printf("bochs: skipped: %lu with flags above 1f and %lu with AC set (request W-205), %lu noted beyond-64k\n", newer_flags,
-           ac_set, beyond_memory);
+    printf("bochs: %lu with SMEP or SMAP on, %lu with AC set; skipped: %lu noted beyond-64k\n", newer_flags, ac_set,
+           beyond_memory);
     printf("bochs: %lu failed\n", failed);
     return failed != 0 || made == 0;
 }

@@ -1,6 +1,7 @@
 /*
  * The pages of a running Linux, as QEMU listed them: vectors_linux linux-guest.bin linux-guest.txt
- * Each page is asked for by all six kinds, cold, again, and warm from the other kinds, with write protect on and off.
+ * Each page is asked for by all six kinds, cold, again, and warm from the other kinds, with write protect on and off: as the
+ * guest ran, and with SMEP and SMAP on, with AC and without.
  */
 #include <inttypes.h>
 #include <stdlib.h>
@@ -14,8 +15,8 @@ struct page {
 };
 
 static struct machine machine;
-static uint64_t width, flags;
-static bool write_protect;
+static uint64_t width, flags; /* the guest's own */
+static uint64_t mode, ac;     /* under which it is asked */
 static unsigned long roots, pages, singles, absent, hits, misses, faults, failed;
 
 static void must_be_done(struct pastrulow_answer answer, const char *what)
@@ -40,20 +41,21 @@ static void load_tables(FILE *file)
     printf("linux: %lu pages of tables in %zu MiB\n", loaded, machine.memory_len >> 20);
 }
 
-/* What the rights of a page, and write protect, let an access of this kind come to. */
+/* What the rights of a page, and the flags by which they are judged, let an access of this kind come to. */
 static struct pastrulow_answer due(const struct page *page, uint64_t kind, uint64_t address)
 {
     bool user = kind >= PASTRULOW_USER_READ;
     bool write = kind % 3 == PASTRULOW_WRITE;
     bool fetch = kind % 3 == PASTRULOW_FETCH;
-    bool barred = (user && !page->user) || (write && !page->writable && (user || write_protect)) ||
-                  (fetch && !page->executable);
+    bool kept_off = !user && page->user && (fetch ? mode & PASTRULOW_SMEP : mode & PASTRULOW_SMAP && ac == 0);
+    bool barred = (user && !page->user) || (write && !page->writable && (user || mode & PASTRULOW_WP)) ||
+                  (fetch && !page->executable) || kept_off;
     struct pastrulow_answer answer = {PASTRULOW_ADDRESS, page->physical + (address - page->virtual), page->size, 0};
     if (barred) {
         answer.kind = PASTRULOW_FAULT;
         answer.size = 0;
         answer.value = PASTRULOW_CODE_PRESENT | (write ? PASTRULOW_CODE_WRITE : 0) | (user ? PASTRULOW_CODE_USER : 0) |
-                       (fetch && (flags & PASTRULOW_NXE) ? PASTRULOW_CODE_FETCH : 0);
+                       (fetch && mode & (PASTRULOW_NXE | PASTRULOW_SMEP) ? PASTRULOW_CODE_FETCH : 0);
     }
     return answer;
 }
@@ -72,7 +74,7 @@ enum warmth { COLD, HELD, EITHER };
 static void ask(const struct page *page, uint64_t kind, uint64_t address, enum warmth warmth)
 {
     struct pastrulow_answer expected = due(page, kind, address);
-    struct pastrulow_answer came = machine_translate(&machine, kind, address);
+    struct pastrulow_answer came = machine_translate(&machine, kind, address, ac);
     uint64_t levels = page->size == 4096 ? 4 : page->size == 2097152 ? 3 : 2;
     bool hit = came.kind == PASTRULOW_ADDRESS && came.read == 0;
     bool may_hit = warmth != COLD && expected.kind == PASTRULOW_ADDRESS;
@@ -96,6 +98,15 @@ static void try_page(const struct page *page)
         ask(page, kind, page->virtual, EITHER);
 }
 
+/* Flags that are changed, and AC. The guest ran with write protect on, and with neither SMEP nor SMAP. */
+static const struct {
+    uint64_t flags, ac;
+} changes[] = {{0, 0},
+               {PASTRULOW_WP, 0},
+               {PASTRULOW_SMEP | PASTRULOW_SMAP, 0},
+               {PASTRULOW_SMEP | PASTRULOW_SMAP, 1},
+               {PASTRULOW_WP | PASTRULOW_SMEP | PASTRULOW_SMAP, 0}};
+
 static void take_page(const char *line)
 {
     struct page page;
@@ -107,12 +118,13 @@ static void take_page(const char *line)
     page.writable = strchr(rights, 'w') != NULL;
     page.executable = fetch[0] == 'x';
     pages++;
-    for (int wp = 1; wp >= 0; wp--) {
-        write_protect = wp == 1;
-        uint64_t mode = write_protect ? flags | PASTRULOW_WP : flags & ~PASTRULOW_WP;
+    for (unsigned i = 0; i < sizeof changes / sizeof *changes; i++) {
+        mode = flags ^ changes[i].flags;
+        ac = changes[i].ac;
         must_be_done(machine_write_mode(&machine, mode), "mode write");
         try_page(&page);
     }
+    must_be_done(machine_write_mode(&machine, flags), "mode write");
 }
 
 /* One address that QEMU was asked for: where it lies, or that nothing is there. */
@@ -122,7 +134,7 @@ static void take_single(const char *line)
     int numbers = sscanf(line, "g %" SCNx64 " %" SCNx64, &address, &physical);
     if (numbers < 1 || (numbers == 1 && strstr(line, " none") == NULL))
         bad_line(line);
-    struct pastrulow_answer came = machine_translate(&machine, PASTRULOW_READ, address);
+    struct pastrulow_answer came = machine_translate(&machine, PASTRULOW_READ, address, 0);
     struct pastrulow_answer expected = {numbers == 2 ? PASTRULOW_ADDRESS : PASTRULOW_FAULT, numbers == 2 ? physical : 0,
                                         numbers == 2 ? came.size : 0, came.read};
     singles++;
@@ -138,7 +150,6 @@ static void take_machine(const char *line)
                &flags) != 4 ||
         high != 0)
         bad_line(line);
-    flags &= VECTOR_FLAGS;
     machine.memory_len = low;
     machine.memory = calloc(1, low);
     if (machine.memory == NULL)

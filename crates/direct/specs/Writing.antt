@@ -1,5 +1,5 @@
 -- The steps of a translation into a record, over the image's bytes: what each is lent, and what it writes.
-use Prim.Native.Nat.{ℕ, _/_, _%_, _≤_}
+use Prim.Native.Nat.{ℕ, _/_, _%_}
 use mathlib.Core.Path.{_≡_}
 use mathlib.Core.Bool.{Bool, cond, _&&_}
 use mathlib.Core.List.{List}
@@ -10,19 +10,19 @@ use Rattle.rules.specs.Memory.{Memory}
 use Rattle.rules.specs.Buffer.{serves, hitAddress}
 use Rattle.rules.specs.Answers.{numbers, recordBytes}
 use Rattle.rules.specs.Calls.{After}
-use Rattle.rules.specs.declared.Access.{Access}
 use Rattle.rules.specs.declared.Answer.the-variants.{Address}
 use Rattle.sets.specs.Ways.{tagIn}
 use Rattle.buffer.specs.Look.{isOf}
+use Rattle.numbers.specs.Needs.{ForEach, Known}
 use Rattle.records.specs.Record.{Recorded}
 use Rattle.paging.specs.Paged.{Usable}
 
--- what is lent: the bytes of an image, with a width, a record's room, whole words of memory, and a kind that there is
-pub record Lent (b r : List ℕ) (mem : Memory) (k : ℕ) : Type 0 where
+-- what is lent: the bytes of an image, with a width, a record's room, whole words of memory, and the number of an access
+pub record Lent (b r : List ℕ) (mem : Memory) (n : ℕ) : Type 0 where
   pub usable : Usable b
   pub room : length r ≡ 32
   pub whole : length mem % 8 ≡ 0
-  pub known : k ≤ 5
+  pub known : Known (decode b .flags) n
 
 -- what is left of an outcome over parts: the answer in its record, the number that is returned, bytes and memory
 pub record Writes (o : After) (r′ b′ : List ℕ) (mem′ : Memory) (n : ℕ) : Type 0 where
@@ -30,7 +30,7 @@ pub record Writes (o : After) (r′ b′ : List ℕ) (mem′ : Memory) (n : ℕ)
   pub image : b′ ≡ encode (o .image)
   pub memory : mem′ ≡ o .memory
 
--- a held page: the slot at a place answers if it is one's own and allows the access; then its record is written, else nothing
-pub record Serves (b : List ℕ) (at l : ℕ) (k : Access) (a : ℕ) (r r′ : List ℕ) (v : Bool) : Type 0 where
-  pub told : v ≡ (isOf (pcid (decode b)) (tagIn b (at / 16)) && serves (control (decode b)) k (decode b .slots (at / 16) .datum))
+-- a held page: the slot at a place answers if it is one's own and allows the access, whatever access has this number; then its record is written, else nothing
+pub record Serves (b : List ℕ) (at l n a : ℕ) (r r′ : List ℕ) (v : Bool) : Type 0 where
+  pub told : ForEach (decode b .flags) n (λ k. v ≡ (isOf (pcid (decode b)) (tagIn b (at / 16)) && serves (control (decode b)) k (decode b .slots (at / 16) .datum)))
   pub answer : r′ ≡ cond v (recordBytes (numbers (Address (hitAddress (sizeOf (at / 16)) (decode b .slots (at / 16) .datum) a) l 0))) r

@@ -63,13 +63,13 @@ done-none ps rs b mem u y p x n e t g asked bytes =
     }
 
 -- what was asked at first holds after a pair
-asked-still : (b : List ℕ) (mem : Memory) (u p : Bool) (x k a : ℕ) → AreBytes b → Asked b mem u x p
-    → Asked (call b mem (translate k a) .image) (call b mem (translate k a) .memory) u x p
-asked-still b mem u p x k a bytes h =
+asked-still : (b : List ℕ) (mem : Memory) (u p : Bool) (x k a ac : ℕ) → AreBytes b → Asked b mem u x p
+    → Asked (call b mem (translate k a ac) .image) (call b mem (translate k a ac) .memory) u x p
+asked-still b mem u p x k a ac bytes h =
     record {
-      image = h .image ∙ sym (fit-stays b mem k a bytes);
-      memory = h .memory ∙ ap (λ (y : ℕ). y % 4096) (sym (memory-stays b mem k a));
-      paging = λ e. h .paging e ∙ ap pg (sym (flags-stay b mem k a bytes));
+      image = h .image ∙ sym (fit-stays b mem k a ac bytes);
+      memory = h .memory ∙ ap (λ (y : ℕ). y % 4096) (sym (memory-stays b mem k a ac));
+      paging = λ e. h .paging e ∙ ap pg (sym (flags-stay b mem k a ac bytes));
     }
 
 front : (i : ℕ) (a b c : List ℕ) → i * 32 ≤ length a → length b ≡ 32 → take ((i + 1) * 32) (take (i * 32) a ++ (b ++ c)) ≡ take (i * 32) a ++ b
@@ -82,11 +82,11 @@ in-order r r′ m = ap (λ (y : List ℕ). record { records = y; image = m .imag
 
 module _ (ps rs₀ b₀ : List ℕ) (mem₀ : Memory) (u : Bool) (x : ℕ) (p : Bool) (n : ℕ) (rs b : List ℕ) (mem : Memory) (i : ℕ) (d : Done ps rs₀ b₀ mem₀ u x p n rs b mem i) where
   pub done-more : (k a : ℕ) (r b′ : List ℕ) (mem′ : Memory) (m : ℕ) → i < n → k ≡ wordAt ps (i * 16) → a ≡ wordAt ps (i * 16 + 8)
-      → IntoRecord (translate k a) r b b′ mem mem′ m → length b′ ≡ length b → AreBytes b′
+      → IntoRecord (translate k a 0) r b b′ mem mem′ m → length b′ ≡ length b → AreBytes b′
       → Done ps rs₀ b₀ mem₀ u x p n (take (i * 32) rs ++ (r ++ drop (i * 32 + 32 - i * 32) (drop (i * 32) rs))) b′ mem′ (i + 1)
   done-more k a r b′ mem′ m h hk ha w long bytes =
       let q : _≡_ {A = Left} (record { number = m; answer = r; image = b′; memory = mem′ }) (written (call b mem (asks (pairAt ps i)))) =
-      w .left ∙ ap₂ (λ (y z : ℕ). written (call b mem (translate y z))) hk ha in
+      w .left ∙ ap₂ (λ (y z : ℕ). written (call b mem (translate y z 0))) hk ha in
       let is : r ≡ written (call b mem (asks (pairAt ps i))) .answer = ap (λ (l : Left). l .answer) q in
       let image : b′ ≡ call b mem (asks (pairAt ps i)) .image = ap (λ (l : Left). l .image) q in
       let memory : mem′ ≡ call b mem (asks (pairAt ps i)) .memory = ap (λ (l : Left). l .memory) q in
@@ -94,7 +94,7 @@ module _ (ps rs₀ b₀ : List ℕ) (mem₀ : Memory) (u : Bool) (x : ℕ) (p : 
       let fits : i * 32 ≤ length rs = omega (arith, d .size) in
       let size : length (take (i * 32) rs ++ (r ++ drop (i * 32 + 32 - i * 32) (drop (i * 32) rs))) ≡ length rs =
       simp (length-append, length-drop, length-take-le (i * 32) rs fits, full) (omega (arith, d .size)) in
-      let memory-long : length mem′ ≡ length mem = ap length memory ∙ memory-stays b mem (pairAt ps i .kind) (pairAt ps i .address) in
+      let memory-long : length mem′ ≡ length mem = ap length memory ∙ memory-stays b mem (pairAt ps i .kind) (pairAt ps i .address) 0 in
       let rest : Made = made (pairsFrom (n - (i + 1)) (i + 1) ps) b′ mem′ in
       record {
         high = omega arith;
@@ -103,7 +103,7 @@ module _ (ps rs₀ b₀ : List ℕ) (mem₀ : Memory) (u : Bool) (x : ℕ) (p : 
         sameImage = long ∙ d .sameImage;
         sameMemory = memory-long ∙ d .sameMemory;
         bytes = bytes;
-        asked = subst (λ (y : List ℕ). Asked y mem′ u x p) (sym image) (subst (λ (z : Memory). Asked (call b mem (asks (pairAt ps i)) .image) z u x p) (sym memory) (asked-still b mem u p x (pairAt ps i .kind) (pairAt ps i .address) (d .bytes) (d .asked)));
+        asked = subst (λ (y : List ℕ). Asked y mem′ u x p) (sym image) (subst (λ (z : Memory). Asked (call b mem (asks (pairAt ps i)) .image) z u x p) (sym memory) (asked-still b mem u p x (pairAt ps i .kind) (pairAt ps i .address) 0 (d .bytes) (d .asked)));
         left =
             ap (λ (y : List ℕ). before y rest) (front i rs r _ fits full)
             ∙ in-order (take (i * 32) rs) r rest

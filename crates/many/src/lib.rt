@@ -25,7 +25,7 @@ fn no_pairs(pairs: &[u8], answers: &[u8]) -> bool
     answers.len() != n * records::LENGTH
 }
 
-// One pair, once image and guest memory are looked at. The steps are those of `translate_into`, in line here too.
+// One pair, with AC 0, once image and guest memory are looked at. The steps are those of `translate_into`, in line here too.
 fn pair(
     image: &mut [u8],
     answer: &mut [u8],
@@ -37,7 +37,7 @@ fn pair(
     a: u64,
 ) -> u64
     requires { ⌜ (length (now answer) ≡ 32) × Asked (now image) (now mem) unfit beyond paged ⌝ }
-    ensures { λ r. ⌜ IntoRecord (translate kind a) (now (answer .exit)) (now (image .entry)) (now (image .exit)) (now (mem .entry)) (now (mem .exit)) r ⌝ }
+    ensures { λ r. ⌜ IntoRecord (translate kind a 0) (now (answer .exit)) (now (image .entry)) (now (image .exit)) (now (mem .entry)) (now (mem .exit)) r ⌝ }
 {
     let number = refusals::translate_refusal(unfit, beyond, paged, kind, a);
     if number != 0 {
@@ -47,16 +47,17 @@ fn pair(
         records::put(answer, 0, a, 0, 0);
         return 0;
     }
+    let access = numbers::access_of(image, kind, 0);
     match look::first(image, a) {
         Start::Small(at) => {
-            if direct::serve(image, answer, at, Page4K::LENGTH, kind, a) {
+            if direct::serve(image, answer, at, Page4K::LENGTH, access, a) {
                 return 0;
             }
-            direct::look_through(image, answer, mem, kind, a)
+            direct::look_through(image, answer, mem, access, a)
         }
-        Start::Middle => direct::look_middle(image, answer, mem, kind, a),
-        Start::Large => direct::look_large(image, answer, mem, kind, a),
-        Start::Nowhere => direct::missed(image, answer, mem, kind, a),
+        Start::Middle => direct::look_middle(image, answer, mem, access, a),
+        Start::Large => direct::look_large(image, answer, mem, access, a),
+        Start::Nowhere => direct::missed(image, answer, mem, access, a),
     }
 }
 

@@ -12,9 +12,10 @@ use Rattle.rules.specs.Memory.{Memory}
 use Rattle.rules.specs.Walk.{walk}
 use Rattle.rules.specs.Buffer.{matches, miss, find, serves, hitAddress, dropped, filled}
 use Rattle.rules.specs.Answers.{answerOf}
-use Rattle.rules.specs.Calls.{accessOf, servedIf, looked}
+use Rattle.rules.specs.Calls.{After, servedIf, looked}
 use Rattle.rules.specs.declared.Size.{Size}
 use Rattle.rules.specs.declared.Control.{Control}
+use Rattle.rules.specs.declared.Access.{Access}
 use Rattle.rules.specs.declared.Answer.the-variants.{Address}
 use Rattle.rules.proofs.SizeLaws.{size-of, length-in}
 use Rattle.rules.proofs.SlotLaws.{nothing-dropped}
@@ -24,7 +25,7 @@ use Rattle.buffer.specs.declared.look.Place.the-variants.{At, Nowhere}
 use Rattle.buffer.specs.Look.{hitOf, Right, Looks}
 use Rattle.drops.specs.Drops.{droppedIn}
 use Rattle.drops.proofs.DropLaws.{image-dropped, says-dropped}
-use Rattle.numbers.specs.Needs.{IsPcid}
+use Rattle.numbers.specs.Needs.{IsPcid, ForEach, Known}
 use Rattle.paging.specs.declared.Held.{Held}
 use Rattle.paging.specs.declared.Held.the-variants.{Page, Nothing}
 use Rattle.paging.specs.Paged.{Usable, Finds, missed}
@@ -86,44 +87,61 @@ usable-dropped q b b₁ u h =
     record { image = image-dropped q b b₁ (u .image) h; wide = rw w (u .wide); narrow = rw w (u .narrow) }
 
 -- ---- the first match answers, or goes
-pub first-looked : (b : List ℕ) (mem : Memory) (at l k a : ℕ) → Looks b a (At at l)
-    → looked (decode b) mem (accessOf k) a (find (decode b) a)
-    ≡ servedIf (serves (control (decode b)) (accessOf k) (decode b .slots (at / 16) .datum)) (decode b) mem (accessOf k) a (at / 16)
-first-looked b mem at l k a looks = ap (looked (decode b) mem (accessOf k) a) (sym (looks .first))
+pub first-looked : (b : List ℕ) (mem : Memory) (at l a : ℕ) (k : Access) → Looks b a (At at l)
+    → looked (decode b) mem k a (find (decode b) a)
+    ≡ servedIf (serves (control (decode b)) k (decode b .slots (at / 16) .datum)) (decode b) mem k a (at / 16)
+first-looked b mem at l a k looks = ap (looked (decode b) mem k a) (sym (looks .first))
 
-module _ (b : List ℕ) (at l k a d w : ℕ) (o : Place) (v : Bool) (looks : Looks b a o) (e : o ≡ At at l) (hd : d ≡ wordAt b (40 + at)) (hw : w ≡ wordAt b 8)
-    (hv : (c : Control) → c .flags ≡ w → v ≡ serves c (accessOf k) d) where
+module _ (b : List ℕ) (at l n a d w : ℕ) (o : Place) (v : Bool) (looks : Looks b a o) (e : o ≡ At at l) (hd : d ≡ wordAt b (40 + at)) (hw : w ≡ wordAt b 8)
+    (hv : (c : Control) → c .flags ≡ w → ForEach (c .flags) n (λ k. v ≡ serves c k d)) where
   right : Right (At at l)
   right = looked-right b a at l o looks e
 
-  match-looked : (mem : Memory) (y : Bool) → v ≡ y
-      → looked (decode b) mem (accessOf k) a (find (decode b) a) ≡ servedIf y (decode b) mem (accessOf k) a (at / 16)
-  match-looked mem y t =
-      first-looked b mem at l k a (subst (Looks b a) e looks)
-      ∙ ap (λ (x : Bool). servedIf x (decode b) mem (accessOf k) a (at / 16))
-      (sym (hv (control (decode b)) (flags-at b ∙ sym hw) ∙ ap (serves (control (decode b)) (accessOf k)) (slot-datum b at l d right hd)) ∙ t)
+  match-looked : (y : Bool) → v ≡ y
+      → ForEach (decode b .flags) n (λ k. (mem : Memory) → looked (decode b) mem k a (find (decode b) a) ≡ servedIf y (decode b) mem k a (at / 16))
+  match-looked y t k of mem =
+      first-looked b mem at l a k (subst (Looks b a) e looks)
+      ∙ ap (λ (x : Bool). servedIf x (decode b) mem k a (at / 16))
+      (sym (hv (control (decode b)) (flags-at b ∙ sym hw) k of ∙ ap (serves (control (decode b)) k) (slot-datum b at l d right hd)) ∙ t)
 
-  pub match-serves : v ≡ true → (x : ℕ) → x ≡ d % 2 ^ 52 / l * l + a % l → Finds b b (accessOf k) a (Page x l)
+  pub match-serves : v ≡ true → (x : ℕ) → x ≡ d % 2 ^ 52 / l * l + a % l → Finds b b n a (Page x l)
   match-serves t x h =
       let m : x ≡ hitAddress (sizeOf (at / 16)) (decode b .slots (at / 16) .datum) a = slot-address b at l d a x right hd h in
-      (refl, λ mem. match-looked mem true t ∙ sym (λ j. record { answer = Address (m j) (right .1 .1 j) 0; image = decode b; memory = mem }))
+      (refl, λ k of mem. match-looked true t k of mem ∙ sym (λ j. record { answer = Address (m j) (right .1 .1 j) 0; image = decode b; memory = mem }))
 
-  pub match-goes : v ≡ false → Usable b → (p : ℕ) (b₁ : List ℕ) → IsPcid b p → b₁ ≡ droppedIn (matches p a) b → Finds b b₁ (accessOf k) a Nothing
+  pub match-goes : v ≡ false → Usable b → (p : ℕ) (b₁ : List ℕ) → IsPcid b p → b₁ ≡ droppedIn (matches p a) b → Finds b b₁ n a Nothing
   match-goes t u p b₁ sp h =
       let s : decode b₁ ≡ dropped (matches (pcid (decode b)) a) (decode b) =
-      ap decode h ∙ says-dropped (matches p a) b (u .image) ∙ ap (λ (y : ℕ). dropped (matches y a) (decode b)) (sp .current) in
-      (usable-dropped (matches p a) b b₁ u h, λ mem. match-looked mem false t ∙ sym (ap (λ (x : Image). missed x mem (accessOf k) a) s))
+      ap decode h ∙ says-dropped (matches p a) b (u .image) ∙ ap (λ (y : ℕ). dropped (matches y a) (decode b)) (sp .current) in (
+        usable-dropped (matches p a) b b₁ u h,
+        ap (λ (x : Image). x .flags) s,
+        λ k of mem.
+            match-looked false t k of mem ∙ sym (ap (λ (x : Image). missed x mem k a) s),
+      )
 
 -- ---- nothing is held
-pub none-looked : (b : List ℕ) (mem : Memory) (k a : ℕ) (o : Place) → Looks b a o → o ≡ Nowhere
-    → looked (decode b) mem (accessOf k) a (find (decode b) a) ≡ missed (decode b) mem (accessOf k) a
-none-looked b mem k a o looks e =
+pub none-looked : (b : List ℕ) (mem : Memory) (a : ℕ) (k : Access) (o : Place) → Looks b a o → o ≡ Nowhere
+    → looked (decode b) mem k a (find (decode b) a) ≡ missed (decode b) mem k a
+none-looked b mem a k o looks e =
     let h : find (decode b) a ≡ miss = sym (looks .first) ∙ ap hitOf e in
-    ap (looked (decode b) mem (accessOf k) a) h
-    ∙ ap (λ (x : Image). record { answer = answerOf (control (decode b)) (accessOf k) a (walk (control (decode b)) (accessOf k) a mem .found); image = filled x a (walk (control (decode b)) (accessOf k) a mem .found); memory = walk (control (decode b)) (accessOf k) a mem .memory }) (nothing-dropped (decode b) a h)
+    ap (looked (decode b) mem k a) h
+    ∙ ap (λ (x : Image). record { answer = answerOf (control (decode b)) k a (walk (control (decode b)) k a mem .found); image = filled x a (walk (control (decode b)) k a mem .found); memory = walk (control (decode b)) k a mem .memory }) (nothing-dropped (decode b) a h)
 
-pub match-none : (b : List ℕ) (k a : ℕ) (o : Place) → Looks b a o → o ≡ Nowhere → Usable b → Finds b b (accessOf k) a Nothing
-match-none b k a o looks e u = (u, λ mem. none-looked b mem k a o looks e)
+pub match-none : (b : List ℕ) (n a : ℕ) (o : Place) → Looks b a o → o ≡ Nowhere → Usable b → Finds b b n a Nothing
+match-none b n a o looks e u = (u, refl, λ k of mem. none-looked b mem a k o looks e)
 
-pub still-usable : (b b′ : List ℕ) (k a : ℕ) (h : Held) → Finds b b′ (accessOf k) a h → h ≡ Nothing → Usable b′
-still-usable b b′ k a h finds e = subst (Finds b b′ (accessOf k) a) e finds .0
+-- ---- where nothing is held, the walk can be made of what is left
+module _ (b b′ : List ℕ) (n a : ℕ) (h : Held) (finds : Finds b b′ n a h) (e : h ≡ Nothing) where
+  pub still-usable : Usable b′
+  still-usable = subst (Finds b b′ n a) e finds .0
+
+  same-flags : decode b′ .flags ≡ decode b .flags
+  same-flags = subst (Finds b b′ n a) e finds .1
+
+  pub still-known : Known (decode b .flags) n → Known (decode b′ .flags) n
+  still-known known = rw same-flags known
+
+  pub still-walked : (P : After → Type 0) (mem : Memory) → ForEach (decode b′ .flags) n (λ k. P (missed (decode b′) mem k a))
+      → ForEach (decode b .flags) n (λ k. P (looked (decode b) mem k a (find (decode b) a)))
+  still-walked P mem g k of =
+      subst P (sym (subst (Finds b b′ n a) e finds .2 k of mem)) (g k (rw same-flags of))

@@ -12,7 +12,6 @@ use Rattle.rules.specs.Memory.{Memory, entryAt}
 use Rattle.rules.specs.Walk.{Walked, walk, reachIn}
 use Rattle.rules.specs.Buffer.{filled}
 use Rattle.rules.specs.Answers.{tellsFetch, code, answerOf}
-use Rattle.rules.specs.Calls.{accessOf}
 use Rattle.rules.specs.declared.Size.{Size}
 use Rattle.rules.specs.declared.Control.{Control}
 use Rattle.rules.specs.declared.Access.{Access}
@@ -27,7 +26,7 @@ use Rattle.rules.proofs.WalkLaws.{IsLeaf, is-leaf, leaf-lt, found-cases}
 use Rattle.rules.proofs.PlaceLaws.{width-at, flags-at, cr3-at}
 use Rattle.walk.specs.Packed.{Ready, Walks}
 use Rattle.buffer.specs.Fill.{filledAt}
-use Rattle.numbers.specs.Needs.{IsPcid, neededOf}
+use Rattle.numbers.specs.Needs.{IsPcid, ForEach, Known}
 use Rattle.paging.specs.Paged.{Usable, InRange, Finishes, missed, Encodes}
 
 -- ---- what a walk goes by
@@ -42,26 +41,26 @@ pub control-is : (b : List ℕ) (w f v n p : ℕ) → w ≡ wordAt b 0 → f ≡
 control-is b w f v n p hw hf hv hn sp =
     rw (← sp .current) (rw (width-at b, flags-at b, cr3-at b, ← hw, ← hf, ← hv, ← hn))
 
-pub walk-ready : (b : List ℕ) (mem : Memory) (c : Control) (t n : ℕ) → Usable b → length mem % 8 ≡ 0 → c ≡ control (decode b)
-    → n ≡ neededOf (c .flags) (accessOf t) → Ready c n mem
-walk-ready b mem c t n u h e q =
+pub walk-ready : (b : List ℕ) (mem : Memory) (c : Control) → Usable b → length mem % 8 ≡ 0 → c ≡ control (decode b) → Ready c mem
+walk-ready b mem c u h e =
     record {
       wide = rw e (u .wide);
       narrow = rw e (u .narrow);
       low = rw e (base-lt 1 (decode b .width) (decode b .cr3) (u .narrow) (omega arith));
       aligned = rw e (omega (arith, base-low 1 (decode b .width) (decode b .cr3) (omega arith)));
       whole = h;
-      access = accessOf t;
-      asks = q;
     }
 
+pub known-there : (b : List ℕ) (c : Control) (n : ℕ) → c ≡ control (decode b) → Known (decode b .flags) n → Known (c .flags) n
+known-there b c n e known = rw e known
+
 -- ---- what a walk finds is in range
-pub found-fits : (b : List ℕ) (c : Control) (t n a : ℕ) (mem mem′ : Memory) (f : Found) → Usable b → c ≡ control (decode b)
-    → n ≡ neededOf (c .flags) (accessOf t) → Walks c n a mem mem′ f → InRange f
-found-fits b c t n a mem mem′ f u e q w =
+pub found-fits : (b : List ℕ) (c : Control) (n a : ℕ) (mem mem′ : Memory) (f : Found) → Usable b → c ≡ control (decode b)
+    → Known (decode b .flags) n → Walks c n a mem mem′ f → InRange f
+found-fits b c n a mem mem′ f u e known w =
     let narrow : c .width ≤ 52 = rw e (u .narrow) in
-    let k : Access = accessOf t in
-    subst InRange (sym (ap (λ (x : Walked). x .found) (w .walks k q)))
+    let k : Access = known .access in
+    subst InRange (sym (ap (λ (x : Walked). x .found) (w .walks k (rw e (known .is)))))
     (found-cases c k (reachIn mem c a .read) InRange (reachIn mem c a .end)
     (λ p d g. let l : IsLeaf (entryAt mem) c p = is-leaf mem c a p d in (leaf-lt (entryAt mem) c p l narrow, (l .low, l .high))) (λ cause. tt))
 
@@ -79,10 +78,10 @@ kept-page base r g d z b b′ a p number set w tag datum q is num hs hw hq sp ht
     let hg : q ≡ isOn 2 (decode b .flags) = rw (flags-at b, ← hw) hq in
     rw (its-level z is, ← num, ← hs, ← hg, ← sp .current, ← ht, ← hd) k
 
-pub finish-page : (f : Found) (base level n : ℕ) (r : Rights) (g d : Bool) (z : Size) (b b′ : List ℕ) (k : Access) (a : ℕ)
+pub finish-page : (f : Found) (base level n : ℕ) (r : Rights) (g d : Bool) (z : Size) (b b′ : List ℕ) (m a : ℕ)
     → InRange f → f ≡ Page base level r g d n → z ≡ sizeAt level → b′ ≡ encode (filled (decode b) a (Page base (z .level) r g d 0))
-    → Finishes b b′ k a f (Address (base + a % z .length) (z .length) n)
-finish-page f base level n r g d z b b′ k a h e size i =
+    → ForEach (decode b .flags) m (λ k. Finishes b b′ k a f (Address (base + a % z .length) (z .length) n))
+finish-page f base level n r g d z b b′ m a h e size i k of =
     let q : InRange (Page base level r g d n) = subst InRange e h in
     let l : z .level ≡ level = ap (λ (x : Size). x .level) size ∙ level-at level (q .1 .0) (q .1 .1) in
     record {
@@ -90,26 +89,24 @@ finish-page f base level n r g d z b b′ k a h e size i =
       answer = rw (e, size);
     }
 
-pub finish-fault : (f : Found) (cause : Cause) (level n m w : ℕ) (told : Bool) (b : List ℕ) (k : Access) (a : ℕ) → f ≡ Fault cause level n → IsImage b
-    → w ≡ decode b .flags → told ≡ tellsFetch w → ((c : Control) → told ≡ tellsFetch (c .flags) → m ≡ code c k cause)
-    → Finishes b b k a f (PageFault cause level m n)
-finish-fault f cause level n m w told b k a e u hw ht h =
-    let m-is : m ≡ code (control (decode b)) k cause = h (control (decode b)) (ht ∙ ap tellsFetch hw) in
+pub finish-fault : (f : Found) (cause : Cause) (level n m w : ℕ) (told : Bool) (b : List ℕ) (t a : ℕ) → f ≡ Fault cause level n → IsImage b
+    → w ≡ decode b .flags → told ≡ tellsFetch w → ((c : Control) → told ≡ tellsFetch (c .flags) → ForEach (c .flags) t (λ k. m ≡ code c k cause))
+    → ForEach (decode b .flags) t (λ k. Finishes b b k a f (PageFault cause level m n))
+finish-fault f cause level n m w told b t a e u hw ht h k of =
+    let m-is : m ≡ code (control (decode b)) k cause = h (control (decode b)) (ht ∙ ap tellsFetch hw) k of in
     record { image = rw e (sym (u .says)); answer = rw (e, ← m-is) }
 
 pub its-flags : (b : List ℕ) (c : Control) → c ≡ control (decode b) → c .flags ≡ decode b .flags
 its-flags b c e = ap (λ (x : Control). x .flags) e
 
-pub walks-it : (b b′ : List ℕ) (mem mem′ : Memory) (c : Control) (t n a : ℕ) (f : Found) (r : Answer) → c ≡ control (decode b)
-    → n ≡ neededOf (c .flags) (accessOf t) → Walks c n a mem mem′ f → Finishes b b′ (accessOf t) a f r
-    → Encodes (missed (decode b) mem (accessOf t) a) b′ mem′ r
-walks-it b b′ mem mem′ c t n a f r e n-is w h =
-    let k : Access = accessOf t in
+pub walks-it : (b b′ : List ℕ) (mem mem′ : Memory) (c : Control) (n a : ℕ) (f : Found) (r : Answer) → c ≡ control (decode b) → Walks c n a mem mem′ f
+    → ForEach (decode b .flags) n (λ k. Finishes b b′ k a f r) → ForEach (decode b .flags) n (λ k. Encodes (missed (decode b) mem k a) b′ mem′ r)
+walks-it b b′ mem mem′ c n a f r e w h k of =
     let v : _≡_ {A = Walked} (record { found = f; memory = mem′ }) (walk (control (decode b)) k a mem) =
-    w .walks k n-is ∙ ap (λ (x : Control). walk x k a mem) e in
+    w .walks k (rw e of) ∙ ap (λ (x : Control). walk x k a mem) e in
     let q : f ≡ walk (control (decode b)) k a mem .found = ap (λ (x : Walked). x .found) v in
     record {
-      answer = h .answer ∙ ap (answerOf (control (decode b)) k a) q;
-      image = h .image ∙ ap (λ (x : Found). encode (filled (decode b) a x)) q;
+      answer = h k of .answer ∙ ap (answerOf (control (decode b)) k a) q;
+      image = h k of .image ∙ ap (λ (x : Found). encode (filled (decode b) a x)) q;
       memory = ap (λ (x : Walked). x .memory) v;
     }

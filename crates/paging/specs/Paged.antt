@@ -13,6 +13,7 @@ use Rattle.rules.specs.declared.Found.{Found}
 use Rattle.rules.specs.declared.Found.the-variants.{Page, Fault}
 use Rattle.rules.specs.declared.Answer.{Answer}
 use Rattle.rules.specs.declared.Answer.the-variants.{Address}
+use Rattle.numbers.specs.Needs.{ForEach}
 use Rattle.paging.specs.declared.Held.{Held}
 use Rattle.paging.specs.declared.Held.the-variants.{Page as HeldPage, Nothing}
 
@@ -49,8 +50,13 @@ missed s mem k a =
       memory = walk (control s) k a mem .memory;
     }
 
--- ---- what is held, all ways looked at: a page that answers, and nothing changes; or nothing, and what is left is walked for
-abbrev pub Finds : List ℕ → List ℕ → Access → ℕ → Held → Type 0
-Finds b b′ k a (HeldPage v l) =
-    (b′ ≡ b) × ((mem : Memory) → looked (decode b) mem k a (find (decode b) a) ≡ record { answer = Address v l 0; image = decode b; memory = mem })
-Finds b b′ k a Nothing = Usable b′ × ((mem : Memory) → looked (decode b) mem k a (find (decode b) a) ≡ missed (decode b′) mem k a)
+-- ---- what is held, all ways looked at, for whatever access has this number: a page that answers, and nothing changes; or nothing, and what is left is walked for, by the
+-- same flags
+abbrev pub Finds : List ℕ → List ℕ → ℕ → ℕ → Held → Type 0
+Finds b b′ n a (HeldPage v l) =
+    (b′ ≡ b)
+    × ForEach (decode b .flags) n
+    (λ k. (mem : Memory) → looked (decode b) mem k a (find (decode b) a) ≡ record { answer = Address v l 0; image = decode b; memory = mem })
+Finds b b′ n a Nothing =
+    Usable b′ × (decode b′ .flags ≡ decode b .flags)
+    × ForEach (decode b .flags) n (λ k. (mem : Memory) → looked (decode b) mem k a (find (decode b) a) ≡ missed (decode b′) mem k a)

@@ -1,12 +1,12 @@
 // An accepted translation with paging on: from the buffer where a held page serves, else by the walk, whose finding is kept.
 ghost use mathlib.Core.Path.{_≡_};
-ghost use Prim.Native.Nat.{_%_, _^_, _≤_, _<_};
+ghost use Prim.Native.Nat.{_%_, _^_, _<_};
 ghost use lib.ListN.{length};
 ghost use Rattle.rules.specs.Image.{encode, decode, control, IsImage};
 ghost use Rattle.rules.specs.Buffer.{filled};
-ghost use Rattle.rules.specs.Calls.{accessOf};
 ghost use Rattle.rules.specs.Sizes.{Is};
 ghost use Rattle.rules.specs.declared.Found.the-variants.{Page};
+ghost use Rattle.numbers.specs.Needs.{ForEach, Known};
 ghost use Rattle.paging.specs.Paged.{Usable, InRange, Finishes, missed, Encodes, Finds};
 use buffer::look;
 use buffer::look::Place;
@@ -50,9 +50,9 @@ fn keep(image: &mut [u8], z: Size, a: u64, r: Rights, global: bool, dirty: bool,
 }
 
 // What a walk found is answered; a page is kept as well.
-fn finish(image: &mut [u8], flags: u64, kind: u64, a: u64, f: Found) -> Answer
-    requires { ⌜ IsImage (now image) × ((flags ≡ decode (now image) .flags) × ((kind ≤ 5) × InRange f)) ⌝ }
-    ensures { λ r. ⌜ Finishes (now (image .entry)) (now (image .exit)) (accessOf kind) a f r ⌝ }
+fn finish(image: &mut [u8], flags: u64, access: u64, a: u64, f: Found) -> Answer
+    requires { ⌜ IsImage (now image) × ((flags ≡ decode (now image) .flags) × InRange f) ⌝ }
+    ensures { λ r. ⌜ ForEach (decode (now (image .entry)) .flags) access (λ k. Finishes (now (image .entry)) (now (image .exit)) k a f r) ⌝ }
 {
     match f {
         Found::Page {
@@ -70,7 +70,7 @@ fn finish(image: &mut [u8], flags: u64, kind: u64, a: u64, f: Found) -> Answer
             Answer::Address { value, size, read }
         }
         Found::Fault { cause, level, read } => {
-            let code = numbers::code_of(numbers::tells_fetch(flags), kind, cause);
+            let code = numbers::code_of(numbers::tells_fetch(flags), access, cause);
             Answer::PageFault {
                 cause,
                 level,
@@ -82,26 +82,25 @@ fn finish(image: &mut [u8], flags: u64, kind: u64, a: u64, f: Found) -> Answer
 }
 
 // The walk is made, and finished.
-pub fn walked(image: &mut [u8], mem: &mut [u8], kind: u64, a: u64) -> Answer
-    requires { ⌜ Usable (now image) × ((length (now mem) % 8 ≡ 0) × (kind ≤ 5)) ⌝ }
-    ensures { λ r. ⌜ Encodes (missed (decode (now (image .entry))) (now (mem .entry)) (accessOf kind) a) (now (image .exit)) (now (mem .exit)) r ⌝ }
+pub fn walked(image: &mut [u8], mem: &mut [u8], access: u64, a: u64) -> Answer
+    requires { ⌜ Usable (now image) × ((length (now mem) % 8 ≡ 0) × Known (decode (now image) .flags) access) ⌝ }
+    ensures { λ r. ⌜ ForEach (decode (now (image .entry)) .flags) access (λ k. Encodes (missed (decode (now (image .entry))) (now (mem .entry)) k a) (now (image .exit)) (now (mem .exit)) r) ⌝ }
 {
     let c = control_of(image);
-    let need = numbers::needed(c.flags, kind);
-    let f = walk::walk(mem, c, need, a);
-    finish(image, c.flags, kind, a, f)
+    let f = walk::walk(mem, c, access, a);
+    finish(image, c.flags, access, a, f)
 }
 
 // All ways are gone through: the first match answers, or what matches goes.
-pub fn find_held(image: &mut [u8], kind: u64, a: u64) -> Held
-    requires { ⌜ Usable (now image) × (kind ≤ 5) ⌝ }
-    ensures { λ r. ⌜ Finds (now (image .entry)) (now (image .exit)) (accessOf kind) a r ⌝ }
+pub fn find_held(image: &mut [u8], access: u64, a: u64) -> Held
+    requires { ⌜ Usable (now image) ⌝ }
+    ensures { λ r. ⌜ Finds (now (image .entry)) (now (image .exit)) access a r ⌝ }
 {
     let pcid = numbers::pcid_of(image);
     match look::look_all(image, a, pcid) {
         Place::At(at, size) => {
             let d = words::read_word(image, 40 + at);
-            if numbers::serves(words::read_word(image, 8), kind, d) {
+            if numbers::serves(words::read_word(image, 8), access, d) {
                 return Held::Page(numbers::hit_address(d, a, size), size);
             }
             drops::drop_matches(image, a, pcid);

@@ -12,7 +12,7 @@ use translator::calls;
 const NO_RECORD: u64 = 1;
 
 // The header has the same number, for a host to compare.
-const VERSION: u64 = 2;
+const VERSION: u64 = 3;
 
 // The width is the physical width M, 36 to 52.
 #[no_mangle]
@@ -25,21 +25,22 @@ pub extern "C" fn pastrulow_start(image: &mut [u8], width: u64, answer: &mut [u8
     records::write_record(answer, calls::start(image, width))
 }
 
-// The kind is 0 for a read, 1 a write, 2 a fetch, by the supervisor; 3, 4, 5 for the same by the user.
+// The kind is 0 for a read, 1 a write, 2 a fetch, by the supervisor; 3, 4, 5 for the same by the user. AC is set by any number but 0.
 #[no_mangle]
 pub extern "C" fn pastrulow_translate(
     image: &mut [u8],
     memory: &mut [u8],
     kind: u64,
     address: u64,
+    ac: u64,
     answer: &mut [u8],
 ) -> u64
-    ensures { λ r. ⌜ TranslatesInto (translate kind address) (now (answer .entry)) (now (answer .exit)) (now (image .entry)) (now (image .exit)) (now (memory .entry)) (now (memory .exit)) r ⌝ }
+    ensures { λ r. ⌜ TranslatesInto (translate kind address ac) (now (answer .entry)) (now (answer .exit)) (now (image .entry)) (now (image .exit)) (now (memory .entry)) (now (memory .exit)) r ⌝ }
 {
-    direct::translate_into(image, memory, kind, address, answer)
+    direct::translate_into(image, memory, kind, address, ac, answer)
 }
 
-// The pairs are of a kind and an address, 16 bytes each; the answers are as many records.
+// The pairs are of a kind and an address, 16 bytes each, and AC is 0; the answers are as many records.
 #[no_mangle]
 pub extern "C" fn pastrulow_translate_many(
     image: &mut [u8],
@@ -89,7 +90,7 @@ pub extern "C" fn pastrulow_write_cr3(image: &mut [u8], value: u64, answer: &mut
     records::write_record(answer, calls::write_cr3(image, value))
 }
 
-// The flags are bit 0 PG, 1 WP, 2 PGE, 3 PCIDE, 4 NXE.
+// The flags are bit 0 PG, 1 WP, 2 PGE, 3 PCIDE, 4 NXE, 5 SMEP, 6 SMAP.
 #[no_mangle]
 pub extern "C" fn pastrulow_write_mode(image: &mut [u8], flags: u64, answer: &mut [u8]) -> u64
     ensures { λ r. ⌜ Passes (writeMode flags) (now (answer .entry)) (now (answer .exit)) (now (image .entry)) (now (image .exit)) r ⌝ }

@@ -12,7 +12,7 @@ use borrow.Author.Tests.{eq-eqb, ne-eqb, lt-ltb, le-ltb, le-leb, lt-leb}
 use Rattle.rules.specs.Bits.{wordsOf, isOn, part, wordAt}
 use Rattle.rules.specs.Image.{decode, control, pg}
 use Rattle.rules.specs.Memory.{Memory}
-use Rattle.rules.specs.Refusals.{start, translate, canonical, isLong, isOutside, allZero, isUnfit, noAddress, noCr3, noMode, noInvpcid, refusal}
+use Rattle.rules.specs.Refusals.{start, translate, canonical, isLong, isOutside, allZero, noFlags, isUnfit, noAddress, noCr3, noMode, noInvpcid, refusal}
 use Rattle.rules.specs.declared.Control.{Control}
 use Rattle.rules.proofs.WordLaws.{zero-tail}
 use Rattle.rules.proofs.PlaceLaws.{width-at, flags-at, cr3-at, victims-at}
@@ -29,12 +29,12 @@ module _ (b : List ℕ) (n : ℕ) (h : length b ≡ 2048) (hn : eqb n 0 ≡ allZ
   tail-is = zero-tail 256 204 b h (omega arith) ∙ ap allZero (sym (take-all 416 (drop 1632 b) (rw length-drop (omega arith)))) ∙ sym hn
 
   pub not-clear : (n ≡ 0 → ⊥) → true ≡ isUnfit b
-  not-clear g = sym (ap (λ (x : Bool). not (isLong b) || isOutside (decode b .width) || leb (2 ^ 5) (decode b .flags) || leb (2 ^ 50) (decode b .victims) || not x) (tail-is ∙ ne-eqb n 0 g) ∙ or-true (not (isLong b) || isOutside (decode b .width) || leb (2 ^ 5) (decode b .flags) || leb (2 ^ 50) (decode b .victims)))
+  not-clear g = sym (ap (λ (x : Bool). not (isLong b) || isOutside (decode b .width) || noFlags (decode b .flags) || leb (2 ^ 50) (decode b .victims) || not x) (tail-is ∙ ne-eqb n 0 g) ∙ or-true (not (isLong b) || isOutside (decode b .width) || noFlags (decode b .flags) || leb (2 ^ 50) (decode b .victims)))
 
-  pub unfit-is : n ≡ 0 → (w f v : ℕ) (o : Bool) → w ≡ wordAt b 0 → f ≡ wordAt b 8 → v ≡ wordAt b 24 → o ≡ isOutside w
-      → (o || leb 32 f || leb 0x4000000000000 v) ≡ isUnfit b
-  unfit-is g w f v o hw hf hv ho =
-      rw (tail-is, eq-eqb n 0 g, eq-eqb (length b) 2048 h, width-at b, flags-at b, victims-at b, ← hw, ← hf, ← hv, ← ho) (sym (or-false _))
+  pub unfit-is : n ≡ 0 → (w f v : ℕ) (o q : Bool) → w ≡ wordAt b 0 → f ≡ wordAt b 8 → v ≡ wordAt b 24 → o ≡ isOutside w → q ≡ noFlags f
+      → (o || q || leb 0x4000000000000 v) ≡ isUnfit b
+  unfit-is g w f v o q hw hf hv ho hq =
+      rw (tail-is, eq-eqb n 0 g, eq-eqb (length b) 2048 h, width-at b, flags-at b, victims-at b, ← hw, ← hf, ← hv, ← ho, ← hq) (sym (or-false _))
 
 -- an image that is not refused is fit
 module _ (b : List ℕ) (o : Bool) (e : o ≡ isUnfit b) (h : o ≡ false) where
@@ -87,11 +87,11 @@ module _ (b : List ℕ) (f : ℕ) (hf : f ≡ wordAt b 8) where
       → (not (eqb n 0) || (q && not p)) ≡ noCr3 (decode b) v
   no-cr3-is w v n p q hw hn hp hq = rw (flags-at b, width-at b, ← hf, ← hw, ← hp, ← hq, ← hn)
 
-  pub no-mode-is : (r v n : ℕ) (p q g : Bool) → r ≡ wordAt b 16 → n ≡ r % 4096 → p ≡ isOn 3 f → q ≡ isOn 3 v → g ≡ isOn 0 v
-      → (ltb 31 v || (q && not g) || (q && not p && not (eqb n 0))) ≡ noMode (decode b) v
-  no-mode-is r v n p q g hr hn hp hq hg =
+  pub no-mode-is : (r v n : ℕ) (p q g o : Bool) → r ≡ wordAt b 16 → n ≡ r % 4096 → p ≡ isOn 3 f → q ≡ isOn 3 v → g ≡ isOn 0 v → o ≡ noFlags v
+      → (o || (q && not g) || (q && not p && not (eqb n 0))) ≡ noMode (decode b) v
+  no-mode-is r v n p q g o hr hn hp hq hg ho =
       let e : r / 1 % 4096 ≡ n = omega arith in
-      rw (flags-at b, cr3-at b, ← hf, ← hr, ← hp, ← hq, ← hg, e)
+      rw (flags-at b, cr3-at b, ← hf, ← hr, ← hp, ← hq, ← hg, ← ho, e)
 
 -- INVPCID: a type and a PCID that there are; then only the first two types ask more
 module _ (b : List ℕ) (t k a : ℕ) where
@@ -131,17 +131,17 @@ at-neither u v o p n e t g y = rw (← e, t, ← g, y)
 pub at-none : (u o : Bool) → o ≡ u → o ≡ false → _≡_ {A = ℕ} 0 (cond u 2 0)
 at-none u o e t = rw (← e, t)
 
-module _ (b : List ℕ) (mem : Memory) (k a m : ℕ) (u p : Bool) (asked : Asked b mem u m p) where
-  pub by-image : u ≡ true → 2 ≡ refusal b mem (translate k a)
+module _ (b : List ℕ) (mem : Memory) (k a ac m : ℕ) (u p : Bool) (asked : Asked b mem u m p) where
+  pub by-image : u ≡ true → 2 ≡ refusal b mem (translate k a ac)
   by-image t = rw (← asked .image, t)
 
   module _ (fits : u ≡ false) where
-    pub no-kind : 5 < k → 3 ≡ refusal b mem (translate k a)
+    pub no-kind : 5 < k → 3 ≡ refusal b mem (translate k a ac)
     no-kind h = rw (← asked .image, fits, lt-ltb 5 k h)
 
-    pub ragged : k ≤ 5 → (m ≡ 0 → ⊥) → 4 ≡ refusal b mem (translate k a)
+    pub ragged : k ≤ 5 → (m ≡ 0 → ⊥) → 4 ≡ refusal b mem (translate k a ac)
     ragged h r = rw (← asked .image, fits, le-ltb 5 k h, ← asked .memory, ne-eqb m 0 r)
 
     pub by-address : k ≤ 5 → m ≡ 0 → (n : ℕ) → ((c : List ℕ) → p ≡ pg (decode c .flags) → n ≡ cond (noAddress (decode c) a) 5 0)
-        → n ≡ refusal b mem (translate k a)
+        → n ≡ refusal b mem (translate k a ac)
     by-address h r n g = rw (← asked .image, fits, le-ltb 5 k h, ← asked .memory, eq-eqb m 0 r) (g b (asked .paging fits))

@@ -6,7 +6,7 @@ ghost use mathlib.Core.List.{List, []};
 ghost use lib.ListN.{length};
 ghost use Rattle.rules.specs.Image.{decode, pg};
 ghost use Rattle.rules.specs.Memory.{Memory};
-ghost use Rattle.rules.specs.Refusals.{start, translate, invlpg, invpcid, writeCr3, writeMode, canonical, isOutside, isUnfit, noAddress, noCr3, noMode, noInvpcid, refusal};
+ghost use Rattle.rules.specs.Refusals.{start, translate, invlpg, invpcid, writeCr3, writeMode, canonical, isOutside, noFlags, isUnfit, noAddress, noCr3, noMode, noInvpcid, refusal};
 ghost use Rattle.rules.specs.declared.Control.{Control};
 ghost use Rattle.refusals.specs.Asked.{Asked};
 
@@ -14,6 +14,12 @@ fn is_outside(width: u64) -> bool
     ensures { λ r. ⌜ r ≡ isOutside width ⌝ }
 {
     (width < 36) | (52 < width)
+}
+
+fn no_flags(flags: u64) -> bool
+    ensures { λ r. ⌜ r ≡ noFlags flags ⌝ }
+{
+    128 <= flags
 }
 
 // The bytes are no image that a call other than start takes.
@@ -29,7 +35,7 @@ pub fn is_unfit(image: &[u8]) -> bool
     let width = words::read_word(image, 0);
     let flags = words::read_word(image, 8);
     let victims = words::read_word(image, 24);
-    is_outside(width) | (32 <= flags) | (0x4_0000_0000_0000 <= victims)
+    is_outside(width) | no_flags(flags) | (0x4_0000_0000_0000 <= victims)
 }
 
 // Bits 63 to 47 as a number: all alike they make 0 or 2^17 - 1, and half of one more is then 0 or 2^16.
@@ -71,7 +77,7 @@ fn no_mode(image: &[u8], value: u64) -> bool
     let pcide = words::is_on(3, words::read_word(image, 8));
     let named = words::read_word(image, 16) % 4096;
     let wanted = words::is_on(3, value);
-    (31 < value) | (wanted & !words::is_on(0, value)) | (wanted & !pcide & !(named == 0))
+    no_flags(value) | (wanted & !words::is_on(0, value)) | (wanted & !pcide & !(named == 0))
 }
 
 // Only the first two types ask whether PCIDs are on, and only the first asks for the address.
@@ -121,7 +127,7 @@ pub fn is_paged(image: &[u8], unfit: bool) -> bool
 
 // What is alike for every address the caller has asked already, once for as many as it asks for.
 pub fn translate_refusal(unfit: bool, beyond: usize, paged: bool, kind: u64, a: u64) -> u64
-    ensures { λ r. ⌜ ((b : List ℕ) (mem : Memory) → Asked b mem unfit beyond paged → r ≡ refusal b mem (translate kind a)) ⌝ }
+    ensures { λ r. ⌜ ((b : List ℕ) (mem : Memory) (ac : ℕ) → Asked b mem unfit beyond paged → r ≡ refusal b mem (translate kind a ac)) ⌝ }
 {
     if unfit {
         return 2;

@@ -108,7 +108,7 @@ lowest-fits (r ∷ rs) h = either (λ (n : ℕ). n < 2 ^ 64) (r .applies) (r .nu
 
 refusals-fit : (b : List ℕ) (mem : Memory) (q : Request) → AllFit (refusals b mem q)
 refusals-fit b mem (start w) = omega arith
-refusals-fit b mem (translate k a) = omega arith
+refusals-fit b mem (translate k a ac) = omega arith
 refusals-fit b mem (invlpg a) = omega arith
 refusals-fit b mem (invpcid t p a) = omega arith
 refusals-fit b mem (writeCr3 v) = omega arith
@@ -116,9 +116,9 @@ refusals-fit b mem (writeMode v) = omega arith
 
 accepted-fits : (b : List ℕ) (mem : Memory) (q : Request) → refusal b mem q ≡ 0 → AreFit (accepted (decode b) mem q .answer)
 accepted-fits b mem (start w) ok = done-fits
-accepted-fits b mem (translate k a) ok =
-    let g = given b mem (translate k a) ok in
-    way-fits (decode b) mem (accessOf k) a (g .0 .narrow) (g .3) (way (decode b) mem (accessOf k) a)
+accepted-fits b mem (translate k a ac) ok =
+    let g = given b mem (translate k a ac) ok in
+    way-fits (decode b) mem (accessOf k ac) a (g .0 .narrow) (g .3) (way (decode b) mem (accessOf k ac) a)
 accepted-fits b mem (invlpg a) ok = done-fits
 accepted-fits b mem (invpcid t p a) ok = done-fits
 accepted-fits b mem (writeCr3 v) ok = done-fits

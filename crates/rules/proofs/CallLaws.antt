@@ -47,7 +47,7 @@ Rising (r ∷ rs) = Above (r .number) rs × Rising rs
 
 pub rising : (b : List ℕ) (mem : Memory) (q : Request) → Rising (refusals b mem q)
 rising b mem (start w) = omega arith
-rising b mem (translate k a) = omega arith
+rising b mem (translate k a ac) = omega arith
 rising b mem (invlpg a) = omega arith
 rising b mem (invpcid t p a) = omega arith
 rising b mem (writeCr3 v) = omega arith

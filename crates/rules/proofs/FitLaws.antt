@@ -26,7 +26,7 @@ fit-passes b f =
       eq-eqb (length b) 2048 (f .long),
       le-ltb (decode b .width) 36 (f .wide),
       le-ltb 52 (decode b .width) (f .narrow),
-      lt-leb (2 ^ 5) (decode b .flags) (f .flags),
+      lt-leb (2 ^ 7) (decode b .flags) (f .flags),
       lt-leb (2 ^ 50) (decode b .victims) (f .victims),
       f .tail,
     )
@@ -35,7 +35,7 @@ fit-passes b f =
 record Ranged (s : Image) : Type 0 where
   wide : 36 ≤ s .width
   narrow : s .width ≤ 52
-  flags : s .flags < 2 ^ 5
+  flags : s .flags < 2 ^ 7
   victims : s .victims < 2 ^ 50
 
 fit-ranged : (b : List ℕ) → Fit b → Ranged (decode b)
@@ -67,29 +67,29 @@ way-flags s mem k a (answered on i e g) = refl
 way-flags s mem k a (walks on un) = walked-cases s mem k a (λ (x : Image). x .flags ≡ s .flags) refl (λ p i v h. refl)
 
 -- ---- a translate on the host's bytes
-accepted-fit : (b : List ℕ) (mem : Memory) (k a : ℕ) → AreBytes b → refusal b mem (translate k a) ≡ 0
-    → isUnfit (encode (accepted (decode b) mem (translate k a) .image)) ≡ isUnfit b
-accepted-fit b mem k a bytes e =
-    let f : Fit b = given b mem (translate k a) e .0 in
-    let r : Ranged (accepted (decode b) mem (translate k a) .image) =
-    way-ranged (decode b) mem (accessOf k) a (fit-ranged b f) (way (decode b) mem (accessOf k) a) in
-    fit-passes _ (fit-encoded (accepted (decode b) mem (translate k a) .image) (sound-accepted b mem bytes (translate k a) e) r) ∙ sym (fit-passes b f)
+accepted-fit : (b : List ℕ) (mem : Memory) (k a ac : ℕ) → AreBytes b → refusal b mem (translate k a ac) ≡ 0
+    → isUnfit (encode (accepted (decode b) mem (translate k a ac) .image)) ≡ isUnfit b
+accepted-fit b mem k a ac bytes e =
+    let f : Fit b = given b mem (translate k a ac) e .0 in
+    let r : Ranged (accepted (decode b) mem (translate k a ac) .image) =
+    way-ranged (decode b) mem (accessOf k ac) a (fit-ranged b f) (way (decode b) mem (accessOf k ac) a) in
+    fit-passes _ (fit-encoded (accepted (decode b) mem (translate k a ac) .image) (sound-accepted b mem bytes (translate k a ac) e) r) ∙ sym (fit-passes b f)
 
-pub fit-stays : (b : List ℕ) (mem : Memory) (k a : ℕ) → AreBytes b → isUnfit (call b mem (translate k a) .image) ≡ isUnfit b
-fit-stays b mem k a bytes = go (called b mem (translate k a))
+pub fit-stays : (b : List ℕ) (mem : Memory) (k a ac : ℕ) → AreBytes b → isUnfit (call b mem (translate k a ac) .image) ≡ isUnfit b
+fit-stays b mem k a ac bytes = go (called b mem (translate k a ac))
   where
-    go : {o : Outcome} → Called b mem (translate k a) o → isUnfit (o .image) ≡ isUnfit b
-    go (taken e) = accepted-fit b mem k a bytes e
+    go : {o : Outcome} → Called b mem (translate k a ac) o → isUnfit (o .image) ≡ isUnfit b
+    go (taken e) = accepted-fit b mem k a ac bytes e
     go (refused n e) = refl
 
-pub flags-stay : (b : List ℕ) (mem : Memory) (k a : ℕ) → AreBytes b → decode (call b mem (translate k a) .image) .flags ≡ decode b .flags
-flags-stay b mem k a bytes = go (called b mem (translate k a))
+pub flags-stay : (b : List ℕ) (mem : Memory) (k a ac : ℕ) → AreBytes b → decode (call b mem (translate k a ac) .image) .flags ≡ decode b .flags
+flags-stay b mem k a ac bytes = go (called b mem (translate k a ac))
   where
-    go : {o : Outcome} → Called b mem (translate k a) o → decode (o .image) .flags ≡ decode b .flags
+    go : {o : Outcome} → Called b mem (translate k a ac) o → decode (o .image) .flags ≡ decode b .flags
     go (taken e) =
-        ap (λ (s : Image). s .flags) (decode-encode (accepted (decode b) mem (translate k a) .image) (sound-accepted b mem bytes (translate k a) e))
-        ∙ way-flags (decode b) mem (accessOf k) a (way (decode b) mem (accessOf k) a)
+        ap (λ (s : Image). s .flags) (decode-encode (accepted (decode b) mem (translate k a ac) .image) (sound-accepted b mem bytes (translate k a ac) e))
+        ∙ way-flags (decode b) mem (accessOf k ac) a (way (decode b) mem (accessOf k ac) a)
     go (refused n e) = refl
 
-pub memory-stays : (b : List ℕ) (mem : Memory) (k a : ℕ) → length (call b mem (translate k a) .memory) ≡ length mem
-memory-stays b mem k a = sym (call-grows b mem (translate k a) .size)
+pub memory-stays : (b : List ℕ) (mem : Memory) (k a ac : ℕ) → length (call b mem (translate k a ac) .memory) ≡ length mem
+memory-stays b mem k a ac = sym (call-grows b mem (translate k a ac) .size)

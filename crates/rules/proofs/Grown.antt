@@ -145,7 +145,7 @@ way-grows s mem k a (walks on un) = walk-grows (control s) k a mem (root-eight s
 
 accepted-grows : (s : Image) (mem : Memory) (q : Request) → Grown mem (accepted s mem q .memory)
 accepted-grows s mem (start w) = grown-none mem
-accepted-grows s mem (translate k a) = way-grows s mem (accessOf k) a (way s mem (accessOf k) a)
+accepted-grows s mem (translate k a ac) = way-grows s mem (accessOf k ac) a (way s mem (accessOf k ac) a)
 accepted-grows s mem (invlpg a) = grown-none mem
 accepted-grows s mem (invpcid t p a) = grown-none mem
 accepted-grows s mem (writeCr3 v) = grown-none mem

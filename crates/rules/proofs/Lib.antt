@@ -21,4 +21,5 @@ pub mod ManyLaws
 pub mod Cases
 pub mod TrialCases
 pub mod OwnCases
+pub mod UserPageCases
 pub mod ManyCases

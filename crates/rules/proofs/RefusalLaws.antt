@@ -10,7 +10,7 @@ use borrow.Author.Tests.{eqb-true, ltb-false, leb-false, not-false}
 use Rattle.rules.specs.Bits.{AreBytes, wordsOf}
 use Rattle.rules.specs.Image.{decode, IsImage}
 use Rattle.rules.specs.Memory.{Memory}
-use Rattle.rules.specs.Refusals.{Request, start, translate, invlpg, invpcid, writeCr3, writeMode, Refusal, lowest, isLong, isOutside, allZero, isUnfit, noAddress, refusals, refusal}
+use Rattle.rules.specs.Refusals.{Request, start, translate, invlpg, invpcid, writeCr3, writeMode, Refusal, lowest, isLong, isOutside, allZero, noFlags, isUnfit, noAddress, refusals, refusal}
 use Rattle.rules.proofs.BoolLaws.{or-left, or-right}
 use Rattle.rules.proofs.PlaceLaws.{image-of}
 use Rattle.rules.proofs.CallLaws.{Above}
@@ -20,7 +20,7 @@ pub record Fit (b : List ℕ) : Type 0 where
   pub long : length b ≡ 2048
   pub wide : 36 ≤ decode b .width
   pub narrow : decode b .width ≤ 52
-  pub flags : decode b .flags < 2 ^ 5
+  pub flags : decode b .flags < 2 ^ 7
   pub victims : decode b .victims < 2 ^ 50
   pub tail : allZero (drop 204 (wordsOf 256 b)) ≡ true
 
@@ -37,13 +37,13 @@ fit b h =
       long = s .0;
       wide = s .1;
       narrow = s .2;
-      flags = leb-false (2 ^ 5) (decode b .flags) (or-right (not (isLong b) || isOutside (decode b .width)) _ (or-left _ _ (or-left _ _ h)));
+      flags = leb-false (2 ^ 7) (decode b .flags) (or-right (not (isLong b) || isOutside (decode b .width)) _ (or-left _ _ (or-left _ _ h)));
       victims =
           leb-false (2 ^ 50) (decode b .victims)
-          (or-right (not (isLong b) || isOutside (decode b .width) || leb (2 ^ 5) (decode b .flags)) _ (or-left _ _ h));
+          (or-right (not (isLong b) || isOutside (decode b .width) || noFlags (decode b .flags)) _ (or-left _ _ h));
       tail =
           not-false (allZero (drop 204 (wordsOf 256 b)))
-          (or-right (not (isLong b) || isOutside (decode b .width) || leb (2 ^ 5) (decode b .flags) || leb (2 ^ 50) (decode b .victims)) _ h);
+          (or-right (not (isLong b) || isOutside (decode b .width) || noFlags (decode b .flags) || leb (2 ^ 50) (decode b .victims)) _ h);
     }
 
 pub fit-image : (b : List ℕ) → AreBytes b → Fit b → IsImage b
@@ -65,16 +65,16 @@ passed (r ∷ rs) above h = go (r .applies) refl h (passed rs (above .1))
 -- ---- each call
 abbrev pub Given : List ℕ → Memory → Request → Type 0
 Given b mem (start w) = (length b ≡ 2048) × (36 ≤ w) × (w ≤ 52)
-Given b mem (translate k a) = Fit b × (k ≤ 5) × (length mem % 4096 ≡ 0) × (noAddress (decode b) a ≡ false)
+Given b mem (translate k a ac) = Fit b × (k ≤ 5) × (length mem % 4096 ≡ 0) × (noAddress (decode b) a ≡ false)
 Given b mem (invlpg a) = Fit b
 Given b mem (invpcid t p a) = Fit b × (p ≤ 4095)
 Given b mem (writeCr3 v) = Fit b
-Given b mem (writeMode v) = Fit b × (v ≤ 31)
+Given b mem (writeMode v) = Fit b × (v < 2 ^ 7)
 
 pub given : (b : List ℕ) (mem : Memory) (q : Request) → refusal b mem q ≡ 0 → Given b mem q
 given b mem (start w) h = sized b w (passed (refusals b mem (start w)) (omega arith) h .0)
-given b mem (translate k a) h =
-    let p : Passed (refusals b mem (translate k a)) = passed (refusals b mem (translate k a)) (omega arith) h in
+given b mem (translate k a ac) h =
+    let p : Passed (refusals b mem (translate k a ac)) = passed (refusals b mem (translate k a ac)) (omega arith) h in
     (fit b (p .0), ltb-false 5 k (p .1 .0), eqb-true (length mem % 4096) 0 (not-false (eqb (length mem % 4096) 0) (p .1 .1 .0)), p .1 .1 .1 .0)
 given b mem (invlpg a) h = fit b (passed (refusals b mem (invlpg a)) (omega arith) h .0)
 given b mem (invpcid t p a) h =
@@ -83,12 +83,12 @@ given b mem (invpcid t p a) h =
 given b mem (writeCr3 v) h = fit b (passed (refusals b mem (writeCr3 v)) (omega arith) h .0)
 given b mem (writeMode v) h =
     let q : Passed (refusals b mem (writeMode v)) = passed (refusals b mem (writeMode v)) (omega arith) h in
-    (fit b (q .0), ltb-false 31 v (or-left (ltb 31 v) _ (or-left _ _ (q .1 .0))))
+    (fit b (q .0), leb-false (2 ^ 7) v (or-left (noFlags v) _ (or-left _ _ (q .1 .0))))
 
 -- every call but start was given an image
 abbrev pub Later : Request → Type 0
 Later (start w) = ⊥
-Later (translate k a) = Unit {0}
+Later (translate k a ac) = Unit {0}
 Later (invlpg a) = Unit {0}
 Later (invpcid t p a) = Unit {0}
 Later (writeCr3 v) = Unit {0}
@@ -96,7 +96,7 @@ Later (writeMode v) = Unit {0}
 
 pub fits : (q : Request) (b : List ℕ) (mem : Memory) → Later q → refusal b mem q ≡ 0 → Fit b
 fits (start w) b mem l h = absurd l
-fits (translate k a) b mem l h = given b mem (translate k a) h .0
+fits (translate k a ac) b mem l h = given b mem (translate k a ac) h .0
 fits (invlpg a) b mem l h = given b mem (invlpg a) h
 fits (invpcid t p a) b mem l h = given b mem (invpcid t p a) h .0
 fits (writeCr3 v) b mem l h = given b mem (writeCr3 v) h

@@ -108,8 +108,8 @@ module _ (b : List ℕ) (mem : Memory) (bytes : AreBytes b) where
 
   pub sound-accepted : (q : Request) → refusal b mem q ≡ 0 → Sound (accepted (decode b) mem q .image)
   sound-accepted (start w) h = sound-started w (given b mem (start w) h .2)
-  sound-accepted (translate k a) h =
-      sound-way (decode b) mem (accessOf k) a (given b mem (translate k a) h .0 .narrow) (was-sound (translate k a) tt h) (way (decode b) mem (accessOf k) a)
+  sound-accepted (translate k a ac) h =
+      sound-way (decode b) mem (accessOf k ac) a (given b mem (translate k a ac) h .0 .narrow) (was-sound (translate k a ac) tt h) (way (decode b) mem (accessOf k ac) a)
   sound-accepted (invlpg a) h =
       sound-dropped (λ i t. canonical (control (decode b)) a && matches (pcid (decode b)) a i t) (decode b) (was-sound (invlpg a) tt h)
   sound-accepted (invpcid t p a) h = sound-dropped (invpcidDrops t p a) (decode b) (was-sound (invpcid t p a) tt h)

@@ -18,23 +18,23 @@ trial cs ls = after cs (then [] ls ∷ [])
 
 abbrev pub cases : List Case
 cases =
-    trial (translate 0 0x123 gives Address 0x5123 0x1000 4 ∷ []) (0x4000 holds 0x5023 ∷ 0x1000 holds 0x2027 ∷ [])
-    ∷ after (translate 0 0x123 gives Address 0x5123 0x1000 4 ∷ translate 1 0x123 gives Address 0x5123 0x1000 4 ∷ [])
-    (then [] (0x4000 holds 0x5063 ∷ []) ∷ then (translate 1 0x123 gives Address 0x5123 0x1000 0 ∷ []) [] ∷ [])
-    ∷ trial (translate 3 0x123 gives PageFault Protection 1 5 4 ∷ []) []
-    ∷ trial (translate 4 0x1000 gives PageFault Protection 1 7 4 ∷ []) []
-    ∷ trial (translate 5 0x2000 gives PageFault Protection 1 0x15 4 ∷ []) []
+    trial (translate 0 0x123 0 gives Address 0x5123 0x1000 4 ∷ []) (0x4000 holds 0x5023 ∷ 0x1000 holds 0x2027 ∷ [])
+    ∷ after (translate 0 0x123 0 gives Address 0x5123 0x1000 4 ∷ translate 1 0x123 0 gives Address 0x5123 0x1000 4 ∷ [])
+    (then [] (0x4000 holds 0x5063 ∷ []) ∷ then (translate 1 0x123 0 gives Address 0x5123 0x1000 0 ∷ []) [] ∷ [])
+    ∷ trial (translate 3 0x123 0 gives PageFault Protection 1 5 4 ∷ []) []
+    ∷ trial (translate 4 0x1000 0 gives PageFault Protection 1 7 4 ∷ []) []
+    ∷ trial (translate 5 0x2000 0 gives PageFault Protection 1 0x15 4 ∷ []) []
     ∷ after []
-    (then (translate 3 0x3000 gives PageFault NotPresent 1 4 4 ∷ []) []
-    ∷ then (translate 5 0x3000 gives PageFault NotPresent 1 0x14 4 ∷ []) []
-    ∷ then (writeMode 7 gives Done ∷ translate 5 0x3000 gives PageFault NotPresent 1 4 4 ∷ []) [] ∷ [])
-    ∷ trial (translate 0 0x4000 gives PageFault Reserved 1 9 4 ∷ []) []
-    ∷ trial (translate 0 0x212345 gives Address 0x612345 0x200000 3 ∷ []) []
-    ∷ trial (translate 1 0x40000010 gives Address 0x40000010 0x40000000 2 ∷ []) (0x2008 holds 0x400000E3 ∷ [])
-    ∷ trial (translate 0 0x0000800000000000 gives Refused 5 ∷ []) []
+    (then (translate 3 0x3000 0 gives PageFault NotPresent 1 4 4 ∷ []) []
+    ∷ then (translate 5 0x3000 0 gives PageFault NotPresent 1 0x14 4 ∷ []) []
+    ∷ then (writeMode 7 gives Done ∷ translate 5 0x3000 0 gives PageFault NotPresent 1 4 4 ∷ []) [] ∷ [])
+    ∷ trial (translate 0 0x4000 0 gives PageFault Reserved 1 9 4 ∷ []) []
+    ∷ trial (translate 0 0x212345 0 gives Address 0x612345 0x200000 3 ∷ []) []
+    ∷ trial (translate 1 0x40000010 0 gives Address 0x40000010 0x40000000 2 ∷ []) (0x2008 holds 0x400000E3 ∷ [])
+    ∷ trial (translate 0 0x0000800000000000 0 gives Refused 5 ∷ []) []
     ∷ trial
-    (translate 0 0x5000 gives Address 0x5000 0x1000 4 ∷ writeCr3 0x1000 gives Done
-    ∷ translate 0 0x5000 gives Address 0x5000 0x1000 0 ∷ []) []
+    (translate 0 0x5000 0 gives Address 0x5000 0x1000 4 ∷ writeCr3 0x1000 gives Done
+    ∷ translate 0 0x5000 0 gives Address 0x5000 0x1000 0 ∷ []) []
     ∷ []
 
 pub all-P : AllRight cases

@@ -1,10 +1,10 @@
--- The answer: "Calls and the answer record" and the fault code of document 01, its fetch bit as request W-201 has it.
+-- The answer: "Calls and the answer record" and the fault code of document 01, its fetch bit as requests W-201 and W-205 have it.
 use Prim.Native.Nat.{ℕ, _+_, _*_, _%_}
-use mathlib.Core.Bool.{Bool, true, false, _&&_}
+use mathlib.Core.Bool.{Bool, true, false, _&&_, _||_}
 use mathlib.Core.List.{List, [], _∷_}
 use Rattle.rules.specs.Bits.{one, bytesOfAll}
 use Rattle.rules.specs.Sizes.{sizeAt}
-use Rattle.rules.specs.Image.{nxe}
+use Rattle.rules.specs.Image.{nxe, smep}
 use Rattle.rules.specs.declared.Control.{Control}
 use Rattle.rules.specs.declared.Access.{Access}
 use Rattle.rules.specs.declared.Cause.{Cause}
@@ -26,9 +26,9 @@ wasReserved NotPresent = false
 wasReserved Reserved = true
 wasReserved Protection = false
 
--- it tells a fetch with NXE on, else none
+-- it tells a fetch with NXE or SMEP on, else none
 abbrev pub tellsFetch : ℕ → Bool
-tellsFetch flags = nxe flags
+tellsFetch flags = nxe flags || smep flags
 
 abbrev pub code : Control → Access → Cause → ℕ
 code c k cause =

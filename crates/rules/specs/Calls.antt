@@ -23,9 +23,9 @@ pub record After : Type 0 where
   pub memory : Memory
 
 -- ---- translate
--- the six kinds of access: a read, a write, a fetch by the supervisor, and then by the user
-abbrev pub accessOf : ℕ → Access
-accessOf k = record { write = eqb (k % 3) 1; user = leb 3 k; fetch = eqb (k % 3) 2 }
+-- the six kinds of access: a read, a write, a fetch by the supervisor, and then by the user; AC is set by any number but 0
+abbrev pub accessOf : ℕ → ℕ → Access
+accessOf k ac = record { write = eqb (k % 3) 1; user = leb 3 k; fetch = eqb (k % 3) 2; ac = not (eqb ac 0) }
 
 -- the slot found answers: nothing is read or changed
 abbrev pub served : Image → Memory → ℕ → ℕ → After
@@ -72,7 +72,7 @@ abbrev pub isSame : Bool → Bool → Bool
 isSame true b = b
 isSame false b = not b
 
--- no flag changes, but for write protect
+-- no flag changes, but for those by which rights are judged alone: write protect, SMEP and SMAP
 abbrev pub sameMode : ℕ → ℕ → Bool
 sameMode v f = isSame (pg v) (pg f) && isSame (pge v) (pge f) && isSame (pcide v) (pcide f) && isSame (nxe v) (nxe f)
 
@@ -84,13 +84,13 @@ invpcidDrops (suc (suc zero)) p a i t = true
 invpcidDrops (suc (suc (suc n))) p a i t = not (isGlobal t)
 
 -- ---- an accepted call. INVLPG of an address that is not canonical drops nothing; a CR3 write drops the PCID that it makes current, unless bit 63 says
--- not to, and that bit is not stored; a mode write drops everything if a flag changes
+-- not to, and that bit is not stored; a mode write drops everything if a flag changes that is not of rights alone
 abbrev pub done : Image → Memory → After
 done s mem = record { answer = Done; image = s; memory = mem }
 
 abbrev pub accepted : Image → Memory → Request → After
 accepted s mem (start w) = done (started w) mem
-accepted s mem (translate k a) = translated (pg (s .flags)) s mem (accessOf k) a
+accepted s mem (translate k a ac) = translated (pg (s .flags)) s mem (accessOf k ac) a
 accepted s mem (invlpg a) = done (dropped (λ i t. canonical (control s) a && matches (pcid s) a i t) s) mem
 accepted s mem (invpcid t p a) = done (dropped (invpcidDrops t p a) s) mem
 accepted s mem (writeCr3 v) =

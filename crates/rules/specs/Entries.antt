@@ -1,9 +1,9 @@
 -- What one entry says at its level, and what rights allow: "The walk" of document 01.
 use Prim.Native.Nat.{ℕ}
-use mathlib.Core.Bool.{Bool, true, false, _&&_, _||_, not}
+use mathlib.Core.Bool.{Bool, true, false, cond, _&&_, _||_, not}
 use lib.Dec.{leb, eqb}
 use Rattle.rules.specs.Bits.{isOn, part}
-use Rattle.rules.specs.Image.{wp, nxe}
+use Rattle.rules.specs.Image.{wp, nxe, smep, smap}
 use Rattle.rules.specs.Formats.{rows, rangesOf, anyIn}
 use Rattle.rules.specs.declared.Control.{Control}
 use Rattle.rules.specs.declared.Access.{Access}
@@ -50,9 +50,15 @@ also r e =
       executable = r .executable && not (isOn 63 e);
     }
 
--- the user may use user pages only; who writes needs the right to, but for the supervisor while WP is off; who fetches needs execution
+-- the supervisor is to keep off user pages: a fetch while SMEP is on, any other access while SMAP is on and AC is not set
+abbrev pub keepsOff : ℕ → Access → Bool
+keepsOff flags k = not (k .user) && cond (k .fetch) (smep flags) (smap flags && not (k .ac))
+
+-- the user may use user pages only; who writes needs the right to, but for the supervisor while WP is off; who fetches needs execution; who is to keep off user
+-- pages may use none
 abbrev pub allows : Control → Access → Rights → Bool
 allows c k r =
     (not (k .user) || r .user)
     && (not (k .write) || r .writable || (not (k .user) && not (wp (c .flags))))
     && (not (k .fetch) || r .executable)
+    && not (keepsOff (c .flags) k && r .user)

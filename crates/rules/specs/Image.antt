@@ -21,7 +21,7 @@ pub record Image : Type 0 where
   pub victims : ℕ
   pub slots : ℕ → Slot
 
--- ---- the flags: paging, write protect, global pages, PCIDs, no-execute, from bit 0 up
+-- ---- the flags: paging, write protect, global pages, PCIDs, no-execute, and what keeps the supervisor off user pages, its fetches and its other accesses, from bit 0 up
 abbrev pub pg : ℕ → Bool
 pg f = isOn 0 f
 
@@ -36,6 +36,12 @@ pcide f = isOn 3 f
 
 abbrev pub nxe : ℕ → Bool
 nxe f = isOn 4 f
+
+abbrev pub smep : ℕ → Bool
+smep f = isOn 5 f
+
+abbrev pub smap : ℕ → Bool
+smap f = isOn 6 f
 
 -- ---- CR3: its bits from 12 up to the width are where the top table stands; its low 12 bits are the current PCID, which is 0 while PCIDE is off
 abbrev pub root : Image → ℕ

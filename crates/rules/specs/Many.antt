@@ -25,9 +25,9 @@ pairsFrom (suc n) i ps = pairAt ps i ∷ pairsFrom n (i + 1) ps
 abbrev pub pairsIn : List ℕ → List Pair
 pairsIn ps = pairsFrom (length ps / 16) 0 ps
 
--- what a pair asks for
+-- what a pair asks for; AC is not set
 abbrev pub asks : Pair → Request
-asks p = translate (p .kind) (p .address)
+asks p = translate (p .kind) (p .address) 0
 
 -- ---- the single calls, one by one: each is given the image and the memory that the one before left. Their records stand one after the other
 pub record Made : Type 0 where

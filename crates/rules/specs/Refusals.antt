@@ -13,7 +13,7 @@ use Rattle.rules.specs.declared.Control.{Control}
 -- a call, with the numbers that it is asked with
 pub data Request : Type 0 where
   start : (width : ℕ) → Request
-  translate : (kind address : ℕ) → Request
+  translate : (kind address ac : ℕ) → Request
   invlpg : (address : ℕ) → Request
   invpcid : (type pcid address : ℕ) → Request
   writeCr3 : (value : ℕ) → Request
@@ -48,12 +48,16 @@ abbrev pub allZero : List ℕ → Bool
 allZero [] = true
 allZero (w ∷ ws) = eqb w 0 && allZero ws
 
+-- a flag that there is not
+abbrev pub noFlags : ℕ → Bool
+noFlags f = leb (2 ^ 7) f
+
 -- no image: its length, its width, a flag or a victim number that there is not, or something after the slots
 abbrev pub isUnfit : List ℕ → Bool
 isUnfit b =
     not (isLong b)
     || isOutside (decode b .width)
-    || leb (2 ^ 5) (decode b .flags)
+    || noFlags (decode b .flags)
     || leb (2 ^ 50) (decode b .victims)
     || not (allZero (drop 204 (wordsOf 256 b)))
 
@@ -68,7 +72,7 @@ noCr3 s v = anyOn 63 (s .width) v || (isOn 63 v && not (pcide (s .flags)))
 -- no mode to go to: a flag that there is not; PCIDE without PG; PCIDE turned on while CR3 names a PCID other than 0
 abbrev pub noMode : Image → ℕ → Bool
 noMode s v =
-    ltb 31 v || (pcide v && not (pg v)) || (pcide v && not (pcide (s .flags)) && not (eqb (field 12 0 (s .cr3)) 0))
+    noFlags v || (pcide v && not (pg v)) || (pcide v && not (pcide (s .flags)) && not (eqb (field 12 0 (s .cr3)) 0))
 
 -- no such invalidation: its type; its PCID; for one address, the address; a PCID other than 0 while PCIDE is off
 abbrev pub noInvpcid : Image → ℕ → ℕ → ℕ → Bool
@@ -77,7 +81,7 @@ noInvpcid s t p a =
 
 abbrev pub refusals : List ℕ → Memory → Request → List Refusal
 refusals b mem (start w) = 2 if (not (isLong b) || isOutside w) ∷ []
-refusals b mem (translate k a) =
+refusals b mem (translate k a ac) =
     2 if isUnfit b ∷ 3 if ltb 5 k ∷ 4 if isRagged mem ∷ 5 if noAddress (decode b) a ∷ []
 refusals b mem (invlpg a) = 2 if isUnfit b ∷ []
 refusals b mem (invpcid t p a) = 2 if isUnfit b ∷ 8 if noInvpcid (decode b) t p a ∷ []

@@ -4,7 +4,7 @@
 pub struct Control {
     // The physical width M, 36 to 52.
     pub width: u64,
-    // Bit 0 PG, 1 WP, 2 PGE, 3 PCIDE, 4 NXE.
+    // Bit 0 PG, 1 WP, 2 PGE, 3 PCIDE, 4 NXE, 5 SMEP, 6 SMAP.
     pub flags: u64,
     // The base of the top table.
     pub root: u64,
@@ -12,11 +12,13 @@ pub struct Control {
     pub pcid: u64,
 }
 
-// What is asked for: a write, a fetch or else a read, by the user or else the supervisor.
+// What is asked for: a write, a fetch or else a read, by the user or else the supervisor; and whether AC is set, the processor's flag by which a supervisor may
+// read and write user pages though SMAP is on.
 pub struct Access {
     pub write: bool,
     pub user: bool,
     pub fetch: bool,
+    pub ac: bool,
 }
 
 // What a page allows.

@@ -63,7 +63,7 @@ contains-is b a i t h = go (eqb (pageIn t) (pageNumber (sizeOf i) a)) refl
 -- the rules' test of an accepted call, by slot number and tag
 abbrev test : Image → Request → ℕ → ℕ → Bool
 test s (start w) i t = true
-test s (translate k a) i t = false
+test s (translate k a ac) i t = false
 test s (invlpg a) i t = canonical (control s) a && matches (pcid s) a i t
 test s (invpcid n p a) i t = invpcidDrops n p a i t
 test s (writeCr3 v) i t = not (isOn 63 v) && ofPcid (pcid (withCr3 (v % 2 ^ 63) s)) t
@@ -71,7 +71,7 @@ test s (writeMode v) i t = not (sameMode v (s .flags))
 
 agree : (s : Image) (i t b : ℕ) → isHeld t ≡ true → contains b i t ≡ true → (q : Request) → test s q i t ≡ names s q (heldIn i t)
 agree s i t b held has (start w) = refl
-agree s i t b held has (translate k a) = refl
+agree s i t b held has (translate k a ac) = refl
 agree s i t b held has (invlpg a) = rw (held, contains-is b a i t has, asked (isGlobal t) (pcidIn t) (pcid s) .2) (sym (and-assoc (canonical (control s) a) _ _))
 agree s i t b held has (invpcid zero p a) = rw (contains-is b a i t has, own t p)
 agree s i t b held has (invpcid (suc zero) p a) = own t p
@@ -84,7 +84,7 @@ agree s i t b held has (writeMode v) = changes-is v (s .flags)
 module _ (s : Image) (mem : Memory) where
   by-test : (q : Request) → isTranslate q ≡ false → (i : ℕ) → accepted s mem q .image .slots i ≡ cond (test s q i (s .slots i .tag)) none (s .slots i)
   by-test (start w) l i = refl
-  by-test (translate k a) l i = absurd (true≢false l)
+  by-test (translate k a ac) l i = absurd (true≢false l)
   by-test (invlpg a) l i = refl
   by-test (invpcid n p a) l i = refl
   by-test (writeCr3 v) l i = refl
@@ -106,7 +106,7 @@ module _ (s : Image) (mem : Memory) where
 
   victims-left : (q : Request) → isTranslate q ≡ false → accepted s mem q .image .victims ≡ victimsAfter s q
   victims-left (start w) l = refl
-  victims-left (translate k a) l = absurd (true≢false l)
+  victims-left (translate k a ac) l = absurd (true≢false l)
   victims-left (invlpg a) l = refl
   victims-left (invpcid t p a) l = refl
   victims-left (writeCr3 v) l = refl
@@ -139,7 +139,7 @@ module _ (s : Image) (i t : ℕ) where
 
   names-covers : (b : ℕ) → contains b i t ≡ true → (q : Request) → names s q (heldIn i t) ≡ true → Somewhere q
   names-covers b has (start w) h = (b, has, refl)
-  names-covers b has (translate k a) h = absurd (true≢false (sym h))
+  names-covers b has (translate k a ac) h = absurd (true≢false (sym h))
   names-covers b has (invlpg a) h =
       let x : (canonical (control s) a && hasAddress (heldIn i t) a) ≡ true = and-left _ _ h in (
         a,

@@ -17,7 +17,8 @@ use Rattle.rules.specs.Calls.{call}
 use Rattle.rules.specs.Many.{pairsFrom, made, many}
 use Rattle.rules.specs.TrialGuest.{pageOf}
 use Rattle.rules.specs.declared.Answer.{Answer}
-use Rattle.rules.specs.declared.Answer.the-variants.{Address}
+use Rattle.rules.specs.declared.Cause.the-variants.{Protection}
+use Rattle.rules.specs.declared.Answer.the-variants.{Address, PageFault}
 use Rattle.sequences.specs.History.{History, begun, _then_with_, bytes, image}
 use Rattle.sequences.specs.Doors.{Doors, opened, _then_with_into_, _then-many_with_into_, doorBytes, historyOf}
 use Rattle.sequences.specs.Covers.{global, others, names, covered}
@@ -44,61 +45,61 @@ abbrev withPcids : History
 withPcids = ready then writeMode 31 with [] then writeCr3 0x0001 with []
 
 -- ---- a case: a translate after a history, what it answers, and what it answers without a buffer
-abbrev Shows : History → Memory → ℕ → ℕ → Answer → Answer → Type 0
-Shows h mem k a r p = (call (bytes h) mem (translate k a) .answer ≡ r) × (plain (image h) mem k a .answer ≡ p)
+abbrev Shows : History → Memory → ℕ → ℕ → ℕ → Answer → Answer → Type 0
+Shows h mem k a ac r p = (call (bytes h) mem (translate k a ac) .answer ≡ r) × (plain (image h) mem k a ac .answer ≡ p)
 
 -- what a translate leaves of guest memory
-abbrev left : History → Memory → ℕ → ℕ → Memory
-left h mem k a = call (bytes h) mem (translate k a) .memory
+abbrev left : History → Memory → ℕ → ℕ → ℕ → Memory
+left h mem k a ac = call (bytes h) mem (translate k a ac) .memory
 
 -- ---- histories
 -- a page was read; a global page was read
 abbrev read : History
-read = ready then translate 0 0x1000 with first
+read = ready then translate 0 0x1000 0 with first
 
 abbrev readGlobal : History → History
-readGlobal h = h then translate 0 0x2000 with first
+readGlobal h = h then translate 0 0x2000 0 with first
 
 -- a page was read, and the next PCID is current
 abbrev other : History
-other = withPcids then translate 0 0x1000 with first then writeCr3 (2 ^ 63 + 0x0002) with []
+other = withPcids then translate 0 0x1000 0 with first then writeCr3 (2 ^ 63 + 0x0002) with []
 
 -- a page was read and then written to, nobody else having written to memory
 abbrev written : History
-written = read then translate 1 0x1000 with left ready first 0 0x1000
+written = read then translate 1 0x1000 0 with left ready first 0 0x1000 0
 
 -- a page was read, and then the root of its PCID changed without a flush
 abbrev moved : History
-moved = withPcids then translate 0 0x1000 with first then writeCr3 (2 ^ 63 + 0x1001) with []
+moved = withPcids then translate 0 0x1000 0 with first then writeCr3 (2 ^ 63 + 0x1001) with []
 
 -- a page was read, another PCID ran under its own root, and the first is back
 abbrev returned : History
-returned = withPcids then translate 0 0x1000 with first then writeCr3 (2 ^ 63 + 0x1002) with [] then writeCr3 (2 ^ 63 + 0x0001) with []
+returned = withPcids then translate 0 0x1000 0 with first then writeCr3 (2 ^ 63 + 0x1002) with [] then writeCr3 (2 ^ 63 + 0x0001) with []
 
 -- a small page was read; a neighbour was read when both had become part of a page of 2 MiB
 abbrev nearby : History
-nearby = ready then translate 0 0x601000 with first then translate 0 0x605000 with changed
+nearby = ready then translate 0 0x601000 0 with first then translate 0 0x605000 0 with changed
 
 pub all-shown :
     -- the guest changed its table and did not invalidate: the answer is that of before. After INVLPG it is the new page
-    Shows read changed 0 0x1000 (Address 0x5000 0x1000 0) (Address 0x8000 0x1000 4)
-    × Shows (read then invlpg 0x1FFF with []) changed 0 0x1000 (Address 0x8000 0x1000 4) (Address 0x8000 0x1000 4)
+    Shows read changed 0 0x1000 0 (Address 0x5000 0x1000 0) (Address 0x8000 0x1000 4)
+    × Shows (read then invlpg 0x1FFF with []) changed 0 0x1000 0 (Address 0x8000 0x1000 4) (Address 0x8000 0x1000 4)
     -- a global page stays through a CR3 write, and through INVPCID of its address; it answers under another PCID and another root
-    × Shows (readGlobal ready then writeCr3 0x0000 with []) changed 0 0x2000 (Address 0x6000 0x1000 0) (Address 0x9000 0x1000 4)
-    × Shows (readGlobal withPcids then invpcid 0 1 0x2000 with []) changed 0 0x2000 (Address 0x6000 0x1000 0) (Address 0x9000 0x1000 4)
-    × Shows (readGlobal withPcids then writeCr3 0x1002 with []) first 0 0x2000 (Address 0x6000 0x1000 0) (Address 0x7000 0x1000 4)
+    × Shows (readGlobal ready then writeCr3 0x0000 with []) changed 0 0x2000 0 (Address 0x6000 0x1000 0) (Address 0x9000 0x1000 4)
+    × Shows (readGlobal withPcids then invpcid 0 1 0x2000 with []) changed 0 0x2000 0 (Address 0x6000 0x1000 0) (Address 0x9000 0x1000 4)
+    × Shows (readGlobal withPcids then writeCr3 0x1002 with []) first 0 0x2000 0 (Address 0x6000 0x1000 0) (Address 0x7000 0x1000 4)
     -- another PCID walks; the first comes back without a flush and finds its page
-    × Shows other changed 0 0x1000 (Address 0x8000 0x1000 4) (Address 0x8000 0x1000 4)
-    × Shows (other then translate 0 0x1000 with changed then writeCr3 (2 ^ 63 + 0x0001) with []) changed 0 0x1000 (Address 0x5000 0x1000 0) (Address 0x8000 0x1000 4)
+    × Shows other changed 0 0x1000 0 (Address 0x8000 0x1000 4) (Address 0x8000 0x1000 4)
+    × Shows (other then translate 0 0x1000 0 with changed then writeCr3 (2 ^ 63 + 0x0001) with []) changed 0 0x1000 0 (Address 0x5000 0x1000 0) (Address 0x8000 0x1000 4)
     -- a write to a clean page walks once more, and from then on is answered
-    × Shows read (left ready first 0 0x1000) 1 0x1000 (Address 0x5000 0x1000 4) (Address 0x5000 0x1000 4)
-    × Shows written (left read (left ready first 0 0x1000) 1 0x1000) 1 0x1000 (Address 0x5000 0x1000 0) (Address 0x5000 0x1000 4)
+    × Shows read (left ready first 0 0x1000 0) 1 0x1000 0 (Address 0x5000 0x1000 4) (Address 0x5000 0x1000 4)
+    × Shows written (left read (left ready first 0 0x1000 0) 1 0x1000 0) 1 0x1000 0 (Address 0x5000 0x1000 0) (Address 0x5000 0x1000 4)
     -- the root changed without a flush: only the translator wrote to memory, and yet the answer is not that of the walk
-    × Shows moved (left withPcids first 0 0x1000) 0 0x1000 (Address 0x5000 0x1000 0) (Address 0x7000 0x1000 4)
+    × Shows moved (left withPcids first 0 0x1000 0) 0 0x1000 0 (Address 0x5000 0x1000 0) (Address 0x7000 0x1000 4)
     -- the root of another PCID does not matter
-    × Shows returned (left withPcids first 0 0x1000) 0 0x1000 (Address 0x5000 0x1000 0) (Address 0x5000 0x1000 4)
+    × Shows returned (left withPcids first 0 0x1000 0) 0 0x1000 0 (Address 0x5000 0x1000 0) (Address 0x5000 0x1000 4)
     -- INVLPG of the neighbour drops the page of 2 MiB that holds both, and not the small page of before
-    × Shows (nearby then invlpg 0x605000 with []) changed 0 0x601000 (Address 0x5000 0x1000 0) (Address 0xA01000 0x200000 3)
+    × Shows (nearby then invlpg 0x605000 with []) changed 0 0x601000 0 (Address 0x5000 0x1000 0) (Address 0xA01000 0x200000 3)
 unfolding bytes encode decode
 all-shown = (
   (refl, refl),
@@ -114,6 +115,23 @@ all-shown = (
   (refl, refl),
   (refl, refl),
 )
+
+-- ---- rights are judged by the flags and by AC of now. A page was read while SMAP was off, and now it is on
+abbrev guarded : History
+guarded = read then writeMode 87 with []
+
+abbrev lent : Memory
+lent = left ready first 0 0x1000 0
+
+pub judged-now :
+    -- the page is held, and with AC it answers; without AC this is a fault, that of the walk of now, and memory is as it was
+    Shows guarded lent 0 0x1000 1 (Address 0x5000 0x1000 0) (Address 0x5000 0x1000 4)
+    × Shows guarded lent 0 0x1000 0 (PageFault Protection 1 1 4) (PageFault Protection 1 1 4)
+    × (left guarded lent 0 0x1000 0 ≡ lent)
+    -- the next time, with AC, it is the address again, by a walk: the fault dropped the slot
+    × Shows (guarded then translate 0 0x1000 0 with lent) lent 0 0x1000 1 (Address 0x5000 0x1000 4) (Address 0x5000 0x1000 4)
+unfolding bytes encode decode
+judged-now = ((refl, refl), (refl, refl), refl, (refl, refl))
 
 -- ---- what does not cover: a CR3 write and INVPCID type 0 a global slot, INVLPG of a neighbour an address of the same 2 MiB
 pub not-covered : (covered global 0x2000 (readGlobal ready) [] (writeCr3 0x0000) ≡ false)
@@ -134,7 +152,7 @@ not-placed = (refl, refl)
 
 -- ---- the root condition: the write that is answered stands under (a), since the last operation that covers everything is the mode write; the PCID that is
 -- back stands under (b)
-pub under-a : RootA written (left read (left ready first 0 0x1000) 1 0x1000) 0x1000
+pub under-a : RootA written (left read (left ready first 0 0x1000 0) 1 0x1000 0) 0x1000
 unfolding bytes encode decode
 under-a =
     record {
@@ -144,7 +162,7 @@ under-a =
       memory-others = (refl, (refl, tt));
     }
 
-pub under-b : RootB returned (left withPcids first 0 0x1000) 0x1000
+pub under-b : RootB returned (left withPcids first 0 0x1000 0) 0x1000
 unfolding bytes encode decode
 under-b =
     record {
@@ -154,7 +172,7 @@ under-b =
     }
 
 -- where the PCID's own root changed, only the translator wrote to memory, and yet neither (a) nor (b) holds, whatever memory is given
-pub only-root : OnlyTranslator (covered (others 1) 0x1000) moved (left withPcids first 0 0x1000)
+pub only-root : OnlyTranslator (covered (others 1) 0x1000) moved (left withPcids first 0 0x1000 0)
 unfolding bytes encode decode
 only-root = (refl, tt)
 
@@ -177,9 +195,9 @@ thrice = bytesOfAll (0 ∷ 0x1000 ∷ 1 ∷ 0x1000 ∷ 1 ∷ 0x1000 ∷ [])
 abbrev batched : Doors
 batched = readyDoors then-many thrice with first into replicate 95 0 then-many thrice with first into replicate 96 0
 
-pub batch-shown : (historyOf batched ≡ (written then translate 1 0x1000 with left read (left ready first 0 0x1000) 1 0x1000))
+pub batch-shown : (historyOf batched ≡ (written then translate 1 0x1000 0 with left read (left ready first 0 0x1000 0) 1 0x1000 0))
     × (many (replicate 96 0) (doorBytes readyDoors) first thrice .answer
     ≡ bytesOfAll (0 ∷ 0x5000 ∷ 0x1000 ∷ 4 ∷ 0 ∷ 0x5000 ∷ 0x1000 ∷ 4 ∷ 0 ∷ 0x5000 ∷ 0x1000 ∷ 0 ∷ []))
-    × Shows (historyOf batched) changed 1 0x1000 (Address 0x5000 0x1000 0) (Address 0x8000 0x1000 4)
+    × Shows (historyOf batched) changed 1 0x1000 0 (Address 0x5000 0x1000 0) (Address 0x8000 0x1000 4)
 unfolding bytes encode decode pairsFrom made
 batch-shown = (refl, refl, (refl, refl))

@@ -31,21 +31,21 @@ abbrev pub UncoveredSlot : ℕ → ℕ → History → Memory → Request → Ty
 UncoveredSlot i t h mem q = (a : ℕ) → contains a i t ≡ true → covered (whoOf t) a h mem q ≡ false
 
 -- the walk of an accepted translate of b left t in slot i
-pub record Filled (i : ℕ) (t : Slot) (h : History) (mem : Memory) (k b : ℕ) : Type 0 where
-  pub ok : Accepted h mem (translate k b)
+pub record Filled (i : ℕ) (t : Slot) (h : History) (mem : Memory) (k b ac : ℕ) : Type 0 where
+  pub ok : Accepted h mem (translate k b ac)
   pub paging : pg (image h .flags) ≡ true
-  pub unanswered : slotAnswers (image h) (accessOf k) (find (image h) b) ≡ false
-  pub memory : accepted (image h) mem (translate k b) .memory ≡ walk (control (image h)) (accessOf k) b mem .memory
+  pub unanswered : slotAnswers (image h) (accessOf k ac) (find (image h) b) ≡ false
+  pub memory : accepted (image h) mem (translate k b ac) .memory ≡ walk (control (image h)) (accessOf k ac) b mem .memory
   pub leaf : Leaf
   pub end : reachIn mem (control (image h)) b .end ≡ reached leaf
-  pub allowed : allows (control (image h)) (accessOf k) (leaf .rights) ≡ true
+  pub allowed : allows (control (image h)) (accessOf k ac) (leaf .rights) ≡ true
   pub inSet : i / 4 ≡ setOf (sizeAt (leaf .level)) b
-  pub slot : t ≡ pageSlot (image h) (accessOf k) b leaf
+  pub slot : t ≡ pageSlot (image h) (accessOf k ac) b leaf
 
 pub data Fate (h : History) (mem : Memory) (i : ℕ) (t : Slot) : Request → Type 0 where
   gone : {q : Request} → t ≡ none → Fate h mem i t q
   kept : {q : Request} → t ≡ slotAt h i → (isHeld (t .tag) ≡ true → UncoveredSlot i (t .tag) h mem q) → Fate h mem i t q
-  fills : {k a : ℕ} → Filled i t h mem k a → Fate h mem i t (translate k a)
+  fills : {k a ac : ℕ} → Filled i t h mem k a ac → Fate h mem i t (translate k a ac)
 
 module _ (h : History) (mem : Memory) (i : ℕ) where
   -- a slot that an operation covers is gone, so one that is kept is covered by none
@@ -64,12 +64,12 @@ module _ (h : History) (mem : Memory) (i : ℕ) where
       go (inl e) = gone e
       go (inr e) = rw e (kept {q = q} refl (unless e))
 
-  by-way : (k a : ℕ) → Accepted h mem (translate k a) → {o : After} → Way (image h) mem (accessOf k) a o → accepted (image h) mem (translate k a) ≡ o
-      → Fate h mem i (o .image .slots i) (translate k a)
-  by-way k a ok (unpaged off) e = kept refl (λ held b has. refl)
-  by-way k a ok (answered on j f g) e = kept refl (λ held b has. refl)
-  by-way k a ok (walks on un) e =
-      walked-slot (image h) mem (accessOf k) a i (λ (t : Slot). Fate h mem i t (translate k a)) (gone refl) (kept refl (λ held b has. refl))
+  by-way : (k a ac : ℕ) → Accepted h mem (translate k a ac) → {o : After} → Way (image h) mem (accessOf k ac) a o → accepted (image h) mem (translate k a ac) ≡ o
+      → Fate h mem i (o .image .slots i) (translate k a ac)
+  by-way k a ac ok (unpaged off) e = kept refl (λ held b has. refl)
+  by-way k a ac ok (answered on j f g) e = kept refl (λ held b has. refl)
+  by-way k a ac ok (walks on un) e =
+      walked-slot (image h) mem (accessOf k ac) a i (λ (t : Slot). Fate h mem i t (translate k a ac)) (gone refl) (kept refl (λ held b has. refl))
       (λ p v w.
       fills (record {
         ok = ok;
@@ -83,13 +83,13 @@ module _ (h : History) (mem : Memory) (i : ℕ) where
         slot = refl;
       }))
     where
-      unanswered : (f : Hit) → find (image h) a ≡ f → slotAnswers (image h) (accessOf k) f ≡ false
+      unanswered : (f : Hit) → find (image h) a ≡ f → slotAnswers (image h) (accessOf k ac) f ≡ false
       unanswered (hit j) f = un j f
       unanswered miss f = refl
 
   pub fate : (q : Request) → Accepted h mem q → Fate h mem i (accepted (image h) mem q .image .slots i) q
   fate (start w) ok = gone refl
-  fate (translate k a) ok = by-way k a ok (way (image h) mem (accessOf k) a) refl
+  fate (translate k a ac) ok = by-way k a ac ok (way (image h) mem (accessOf k ac) a) refl
   fate (invlpg a) ok = by-drop (invlpg a) refl
   fate (invpcid t p a) ok = by-drop (invpcid t p a) refl
   fate (writeCr3 v) ok = by-drop (writeCr3 v) refl

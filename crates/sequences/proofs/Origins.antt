@@ -61,22 +61,22 @@ origin h i t e held = go h e
         by : {q : Request} → (image h .slots i ≡ t → Origin i t h) → Fate h mem i t q → Origin i t (h then q with mem)
         by ih (gone z) = never z
         by {q} ih (kept z un) = later q (ih (sym z)) (un held)
-        by ih (fills {k} {a} f) = moment k a (f .ok) f
+        by ih (fills {k} {a} {ac} f) = moment k a ac (f .ok) f
 
 -- a weaker condition on the moment, and on the calls after it
-pub since-map : {Q Q′ : History → Memory → Request → Type 0} {P P′ : History → Memory → ℕ → ℕ → Type 0}
+pub since-map : {Q Q′ : History → Memory → Request → Type 0} {P P′ : History → Memory → ℕ → ℕ → ℕ → Type 0}
     → ((h : History) (mem : Memory) (q : Request) → Q h mem q → Q′ h mem q)
-    → ((h : History) (mem : Memory) (k a : ℕ) → P h mem k a → P′ h mem k a) → {h : History} → Since Q P h → Since Q′ P′ h
-since-map f g (moment {h = h} {mem = mem} k a ok p) = moment k a ok (g h mem k a p)
+    → ((h : History) (mem : Memory) (k a ac : ℕ) → P h mem k a ac → P′ h mem k a ac) → {h : History} → Since Q P h → Since Q′ P′ h
+since-map f g (moment {h = h} {mem = mem} k a ac ok p) = moment k a ac ok (g h mem k a ac p)
 since-map f g (later {h = h} {mem = mem} q r u) = later q (since-map f g r) (f h mem q u)
 
 -- ---- what a filled slot says
-module _ {i : ℕ} {t : Slot} {h : History} {m : Memory} {k b : ℕ} (f : Filled i t h m k b) where
+module _ {i : ℕ} {t : Slot} {h : History} {m : Memory} {k b ac : ℕ} (f : Filled i t h m k b ac) where
   abbrev p : Leaf
   p = f .leaf
 
   fit : Fit (bytes h)
-  fit = given (bytes h) m (translate k b) (f .ok) .0
+  fit = given (bytes h) m (translate k b ac) (f .ok) .0
 
   found : IsLeaf (entryAt m) (control (image h)) (f .leaf)
   found = is-leaf m (control (image h)) b (f .leaf) (f .end)
@@ -107,22 +107,22 @@ module _ {i : ℕ} {t : Slot} {h : History} {m : Memory} {k b : ℕ} (f : Filled
 
   -- ---- the data
   slot-rights : rightsIn (t .datum) ≡ f .leaf .rights
-  slot-rights = rw (f .slot) (rights-back (p .rights) (accessOf k .write || p .dirty) (p .base) (leaf-base (entryAt m) (control (image h)) p found))
+  slot-rights = rw (f .slot) (rights-back (p .rights) (accessOf k ac .write || p .dirty) (p .base) (leaf-base (entryAt m) (control (image h)) p found))
 
-  slot-dirty : isDirty (t .datum) ≡ (accessOf k .write || f .leaf .dirty)
-  slot-dirty = rw (f .slot) (dirty-back (p .rights) (accessOf k .write || p .dirty) (p .base) (leaf-base (entryAt m) (control (image h)) p found))
+  slot-dirty : isDirty (t .datum) ≡ (accessOf k ac .write || f .leaf .dirty)
+  slot-dirty = rw (f .slot) (dirty-back (p .rights) (accessOf k ac .write || p .dirty) (p .base) (leaf-base (entryAt m) (control (image h)) p found))
 
   slot-base : part 52 (shift (sizeOf i .level)) (t .datum) ≡ f .leaf .base
   slot-base =
       rw (size-is, level-is, f .slot, found .base)
-      (base-back (p .level) (image h .width) (entryAt m (p .at)) (fit .narrow) (p .rights) (accessOf k .write || p .dirty) (found .low))
+      (base-back (p .level) (image h .width) (entryAt m (p .at)) (fit .narrow) (p .rights) (accessOf k ac .write || p .dirty) (found .low))
 
   -- an access that the slot serves may use the page
   pub may-use : (c : Control) (q : Access) → serves c q (t .datum) ≡ true → allows c q (f .leaf .rights) ≡ true
   may-use c q ok = rw (← slot-rights) (and-left (allows c q (rightsIn (t .datum))) _ ok)
 
   -- and, if it writes, the page was dirty by then
-  pub was-dirty : (c : Control) (q : Access) → serves c q (t .datum) ≡ true → q .write ≡ true → (accessOf k .write || f .leaf .dirty) ≡ true
+  pub was-dirty : (c : Control) (q : Access) → serves c q (t .datum) ≡ true → q .write ≡ true → (accessOf k ac .write || f .leaf .dirty) ≡ true
   was-dirty c q ok e = sym slot-dirty ∙ rw e at (and-right (allows c q (rightsIn (t .datum))) (not (q .write) || isDirty (t .datum)) ok)
 
   -- ---- for an address that the slot holds
@@ -159,5 +159,5 @@ pub placed : Placed
 placed h i held = go (origin h i (image h .slots i) refl held)
   where
     go : {h₀ : History} → Origin i (image h .slots i) h₀ → IsPlaced i (image h .slots i)
-    go (moment k a ok f) = record { held = held; address = a; has = holds-page f }
+    go (moment k a ac ok f) = record { held = held; address = a; has = holds-page f }
     go (later q r u) = go r

@@ -39,7 +39,7 @@ thrice false h = refl
 
 kept-accepted : (who : Who) (a : ℕ) (s : Image) (mem : Memory) (q : Request) → covers who a s q ≡ false → Kept s (accepted s mem q .image)
 kept-accepted who a s mem (start w) h = absurd (true≢false h)
-kept-accepted who a s mem (translate k b) h = kept-way s mem (accessOf k) b (way s mem (accessOf k) b)
+kept-accepted who a s mem (translate k b ac) h = kept-way s mem (accessOf k ac) b (way s mem (accessOf k ac) b)
 kept-accepted who a s mem (invlpg b) h = record { width = refl; nxe = refl }
 kept-accepted who a s mem (invpcid t p b) h = record { width = refl; nxe = refl }
 kept-accepted who a s mem (writeCr3 v) h = record { width = refl; nxe = refl }
@@ -57,8 +57,8 @@ kept-call who a h mem q u =
     (λ ok. kept-accepted who a (image h) mem q (rw (eq-eqb (refusal (bytes h) mem q) 0 ok, and-true) at u)) (λ n r. record { width = refl; nxe = refl })
 
 -- ---- the moment, seen from now: what the walk goes by was kept since, and memory has grown
-pub data Traced (P : History → Memory → ℕ → ℕ → Type 0) (R : History → Type 0) (h : History) (last : Memory) : Type 0 where
-  from : {h₀ : History} {m : Memory} {k b : ℕ} → P h₀ m k b → R h₀ → Kept (image h₀) (image h) → Grown (call (bytes h₀) m (translate k b) .memory) last
+pub data Traced (P : History → Memory → ℕ → ℕ → ℕ → Type 0) (R : History → Type 0) (h : History) (last : Memory) : Type 0 where
+  from : {h₀ : History} {m : Memory} {k b ac : ℕ} → P h₀ m k b ac → R h₀ → Kept (image h₀) (image h) → Grown (call (bytes h₀) m (translate k b ac) .memory) last
       → Traced P R h last
 
 -- what holds throughout a span holds at its end; and at a call that does not begin the span, the span goes on before it
@@ -74,13 +74,13 @@ goes-on false A e x = x
 abbrev Asked : (History → Memory → Request → Bool) → Bool → History → Memory → Request → Memory → Type 0
 Asked begins b h mem q last = IfMoment b (IsLeft last h mem q × OnlyTranslator begins h mem) (OnlyTranslator begins h last)
 
-module _ {Q : History → Memory → Request → Type 0} {P : History → Memory → ℕ → ℕ → Type 0} (R : History → Type 0) (who : Who) (a : ℕ)
+module _ {Q : History → Memory → Request → Type 0} {P : History → Memory → ℕ → ℕ → ℕ → Type 0} (R : History → Type 0) (who : Who) (a : ℕ)
     (un : (h : History) (mem : Memory) (q : Request) → Q h mem q → Uncovered who a h mem q) where
   pub traced : {h : History} (last : Memory) → Since Q P h → Throughout (covered who a) R h → OnlyTranslator (covered who a) h last → Traced P R h last
-  traced last (moment {h = h} {mem = mem} k b ok p) t o =
-      let at : Asked (covered who a) true h mem (translate k b) last = rw (eq-eqb (refusal (bytes h) mem (translate k b)) 0 ok) at o in
-      from p (throughout-end (covered who a) R h (t .1)) (kept-call who a h mem (translate k b) refl)
-      (subst (Grown (call (bytes h) mem (translate k b) .memory)) (sym (at .0)) (grown-none _))
+  traced last (moment {h = h} {mem = mem} k b ac ok p) t o =
+      let at : Asked (covered who a) true h mem (translate k b ac) last = rw (eq-eqb (refusal (bytes h) mem (translate k b ac)) 0 ok) at o in
+      from p (throughout-end (covered who a) R h (t .1)) (kept-call who a h mem (translate k b ac) refl)
+      (subst (Grown (call (bytes h) mem (translate k b ac) .memory)) (sym (at .0)) (grown-none _))
   traced last (later {h = h} {mem = mem} q r u) t o =
       go (isMoment h mem q) (goes-on (covered who a h mem q) (Asked (covered who a) (isMoment h mem q) h mem q last) (un h mem q u) o)
       (λ m. traced m r (goes-on (covered who a h mem q) (Throughout (covered who a) R h) (un h mem q u) (t .1)))

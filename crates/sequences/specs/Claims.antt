@@ -31,20 +31,21 @@ walkOnly true s mem k a =
     record { answer = answerOf (control s) k a (w .found); memory = w .memory }
 walkOnly false s mem k a = record { answer = Address a 0 0; memory = mem }
 
-abbrev pub plain : Image → Memory → ℕ → ℕ → Plain
-plain s mem k a = walkOnly (pg (s .flags)) s mem (accessOf k) a
+abbrev pub plain : Image → Memory → ℕ → ℕ → ℕ → Plain
+plain s mem k a ac = walkOnly (pg (s .flags)) s mem (accessOf k ac) a
 
 -- the same of another moment, as judged now: which page the walk reaches goes by the memory and the control state s of that moment; whether the access
--- may use it goes by `now`, the image of the call. Judging reads write protect and nothing else of control: this is seen in the rules' `allows`, where `wp` is
--- all that is asked of it. A fault's code goes by `now` as well, whatever it asks: of another moment only an address is claimed (`Gives`)
+-- may use it, AC and all, goes by `now`, the image of the call. Judging reads the flags by which rights are judged, write protect, SMEP and SMAP, and nothing else of
+-- control: this is seen in the rules' `allows`, where `wp`, `smep` and `smap` are all that is asked of it. A fault's code goes by `now` as well, whatever it asks: of another
+-- moment only an address is claimed (`Gives`)
 abbrev pub judgedBy : Image → Bool → Image → Memory → Access → ℕ → Answer
 judgedBy now true s mem k a =
     let w : Reach = reachIn mem (control s) a in
     answerOf (control now) k a (judged (control now) k (w .end) (w .read))
 judgedBy now false s mem k a = Address a 0 0
 
-abbrev pub plainThen : Image → Image → Memory → ℕ → ℕ → Answer
-plainThen now s mem k a = judgedBy now (pg (s .flags)) s mem (accessOf k) a
+abbrev pub plainThen : Image → Image → Memory → ℕ → ℕ → ℕ → Answer
+plainThen now s mem k a ac = judgedBy now (pg (s .flags)) s mem (accessOf k ac) a
 
 -- an answer but for the number of entries read
 abbrev pub butCount : Answer → Answer
@@ -68,50 +69,50 @@ RanUnder global now s = Unit {0}
 RanUnder (others p) now s = pcid s ≡ pcid now
 
 -- of a moment at h: its walk gives this address and size to the access of now
-pub record Gives (now : Image) (who : Who) (k a value size : ℕ) (h : History) (mem : Memory) (k₀ a₀ : ℕ) : Type 0 where
-  pub answer : butCount (plainThen now (image h) mem k a) ≡ Address value size 0
+pub record Gives (now : Image) (who : Who) (k a ac value size : ℕ) (h : History) (mem : Memory) (k₀ a₀ ac₀ : ℕ) : Type 0 where
+  pub answer : butCount (plainThen now (image h) mem k a ac) ≡ Address value size 0
   pub under : RanUnder who now (image h)
 
 abbrev pub Answers : Type 0
 Answers =
-    (h : History) (mem : Memory) (k a value size read : ℕ)
-    → call (bytes h) mem (translate k a) .answer ≡ Address value size read
-    → Since (Uncovered (whose (image h) a) a) (Gives (image h) (whose (image h) a) k a value size) (h then translate k a with mem)
+    (h : History) (mem : Memory) (k a ac value size read : ℕ)
+    → call (bytes h) mem (translate k a ac) .answer ≡ Address value size read
+    → Since (Uncovered (whose (image h) a) a) (Gives (image h) (whose (image h) a) k a ac value size) (h then translate k a ac with mem)
 
 -- ---- what was read is of now: an answer with entries read, and any fault, are the walk's of this call, memory included. Of hand-made images too
-pub record IsPlain (s : Image) (mem : Memory) (k a : ℕ) (o : Outcome) : Type 0 where
-  pub answer : o .answer ≡ plain s mem k a .answer
-  pub memory : o .memory ≡ plain s mem k a .memory
+pub record IsPlain (s : Image) (mem : Memory) (k a ac : ℕ) (o : Outcome) : Type 0 where
+  pub answer : o .answer ≡ plain s mem k a ac .answer
+  pub memory : o .memory ≡ plain s mem k a ac .memory
 
 abbrev pub ReadNow : Type 0
 ReadNow =
-    (b : List ℕ) (mem : Memory) (k a value size read : ℕ)
-    → call b mem (translate k a) .answer ≡ Address value size (suc read)
-    → IsPlain (decode b) mem k a (call b mem (translate k a))
+    (b : List ℕ) (mem : Memory) (k a ac value size read : ℕ)
+    → call b mem (translate k a ac) .answer ≡ Address value size (suc read)
+    → IsPlain (decode b) mem k a ac (call b mem (translate k a ac))
 
 abbrev pub Faults : Type 0
 Faults =
-    (b : List ℕ) (mem : Memory) (k a : ℕ) (cause : Cause) (level code read : ℕ)
-    → call b mem (translate k a) .answer ≡ PageFault cause level code read
-    → IsPlain (decode b) mem k a (call b mem (translate k a))
+    (b : List ℕ) (mem : Memory) (k a ac : ℕ) (cause : Cause) (level code read : ℕ)
+    → call b mem (translate k a ac) .answer ≡ PageFault cause level code read
+    → IsPlain (decode b) mem k a ac (call b mem (translate k a ac))
 
 -- ---- equality: under the root condition the answer but for the count, and all guest memory, are those without a buffer
-pub record IsPlainButCount (s : Image) (mem : Memory) (k a : ℕ) (o : Outcome) : Type 0 where
-  pub answer : butCount (o .answer) ≡ butCount (plain s mem k a .answer)
-  pub memory : o .memory ≡ plain s mem k a .memory
+pub record IsPlainButCount (s : Image) (mem : Memory) (k a ac : ℕ) (o : Outcome) : Type 0 where
+  pub answer : butCount (o .answer) ≡ butCount (plain s mem k a ac .answer)
+  pub memory : o .memory ≡ plain s mem k a ac .memory
 
 -- in the paper's words
 abbrev pub EqualityWorded : Type 0
 EqualityWorded =
-    (h : History) (mem : Memory) (k a : ℕ)
-    → Accepted h mem (translate k a)
+    (h : History) (mem : Memory) (k a ac : ℕ)
+    → Accepted h mem (translate k a ac)
     → WordedA h mem a ⊎ WordedB h mem a
-    → IsPlainButCount (image h) mem k a (call (bytes h) mem (translate k a))
+    → IsPlainButCount (image h) mem k a ac (call (bytes h) mem (translate k a ac))
 
 -- under what suffices
 abbrev pub Equality : Type 0
 Equality =
-    (h : History) (mem : Memory) (k a : ℕ)
-    → Accepted h mem (translate k a)
+    (h : History) (mem : Memory) (k a ac : ℕ)
+    → Accepted h mem (translate k a ac)
     → RootA h mem a ⊎ RootB h mem a
-    → IsPlainButCount (image h) mem k a (call (bytes h) mem (translate k a))
+    → IsPlainButCount (image h) mem k a ac (call (bytes h) mem (translate k a ac))

@@ -57,7 +57,7 @@ typeNames (suc (suc (suc n))) p a x = not (areGlobal (x .who))
 -- a call that is accepted at image s drops a slot that holds this
 abbrev pub names : Image → Request → Held → Bool
 names s (start w) x = true
-names s (translate k a) x = false
+names s (translate k a ac) x = false
 names s (invlpg a) x = canonical (control s) a && hasAddress x a && (areGlobal (x .who) || areOf (pcid s) (x .who))
 names s (invpcid t p a) x = typeNames t p a x
 names s (writeCr3 v) x = not (isOn 63 v) && areOf (pcidAfter s v) (x .who)

@@ -38,7 +38,7 @@ Placed = (h : History) (i : ℕ) → isHeld (image h .slots i .tag) ≡ true →
 -- anything but empty or as it was; victim numbers stay through all but start
 abbrev pub victimsAfter : Image → Request → ℕ
 victimsAfter s (start w) = 0
-victimsAfter s (translate k a) = s .victims
+victimsAfter s (translate k a ac) = s .victims
 victimsAfter s (invlpg a) = s .victims
 victimsAfter s (invpcid t p a) = s .victims
 victimsAfter s (writeCr3 v) = s .victims

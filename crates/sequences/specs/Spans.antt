@@ -17,8 +17,8 @@ use Rattle.sequences.specs.History.{History, begun, _then_with_, bytes, 
 use Rattle.sequences.specs.Covers.{Who, global, others, covered}
 
 -- ---- a moment is an accepted translate. P holds of one moment of the history, and Q of every call after that moment
-pub data Since (Q : History → Memory → Request → Type 0) (P : History → Memory → ℕ → ℕ → Type 0) : History → Type 0 where
-  moment : {h : History} {mem : Memory} (k a : ℕ) → Accepted h mem (translate k a) → P h mem k a → Since Q P (h then translate k a with mem)
+pub data Since (Q : History → Memory → Request → Type 0) (P : History → Memory → ℕ → ℕ → ℕ → Type 0) : History → Type 0 where
+  moment : {h : History} {mem : Memory} (k a ac : ℕ) → Accepted h mem (translate k a ac) → P h mem k a ac → Since Q P (h then translate k a ac with mem)
   later : {h : History} {mem : Memory} (q : Request) → Since Q P h → Q h mem q → Since Q P (h then q with mem)
 
 -- a call that does not cover a's slots of `who`
@@ -39,7 +39,7 @@ Throughout begins P (h then q with mem) = P (h then q with mem) × Unless (begin
 -- `last`, was lent what the accepted translate before it left. Other calls are given no guest memory, and refused ones leave it alone: they ask nothing
 abbrev pub isTranslate : Request → Bool
 isTranslate (start w) = false
-isTranslate (translate k a) = true
+isTranslate (translate k a ac) = true
 isTranslate (invlpg a) = false
 isTranslate (invpcid t p a) = false
 isTranslate (writeCr3 v) = false
@@ -73,8 +73,8 @@ globalPage s b a (Fault cause level n) = false
 
 abbrev pub fillsGlobal : ℕ → Image → Memory → Request → Bool
 fillsGlobal a s mem (start w) = false
-fillsGlobal a s mem (translate k b) =
-    pg (s .flags) && not (slotAnswers s (accessOf k) (find s b)) && globalPage s b a (walk (control s) (accessOf k) b mem .found)
+fillsGlobal a s mem (translate k b ac) =
+    pg (s .flags) && not (slotAnswers s (accessOf k ac) (find s b)) && globalPage s b a (walk (control s) (accessOf k ac) b mem .found)
 fillsGlobal a s mem (invlpg b) = false
 fillsGlobal a s mem (invpcid t p b) = false
 fillsGlobal a s mem (writeCr3 v) = false

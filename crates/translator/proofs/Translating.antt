@@ -20,29 +20,31 @@ use Rattle.rules.proofs.RefusalLaws.{Given, given, fit-image}
 use Rattle.refusals.specs.Asked.{Asked}
 use Rattle.paging.specs.declared.Held.{Held}
 use Rattle.paging.specs.declared.Held.the-variants.{Page as HeldPage, Nothing}
+use Rattle.numbers.specs.Needs.{IsAccess, ForEach}
 use Rattle.paging.specs.Paged.{Usable, Finds, missed, Encodes}
+use Rattle.paging.proofs.Holding.{still-walked}
 use Rattle.translator.specs.Contract.{Translates}
 
 -- ---- a translation
-module _ (b : List ℕ) (mem : Memory) (k a n : ℕ) (number-is : n ≡ refusal b mem (translate k a)) where
-  pub refuses-it : (n ≡ 0 → ⊥) → Translates (translate k a) b b mem mem (Refused n)
+module _ (b : List ℕ) (mem : Memory) (k a ac n : ℕ) (number-is : n ≡ refusal b mem (translate k a ac)) where
+  pub refuses-it : (n ≡ 0 → ⊥) → Translates (translate k a ac) b b mem mem (Refused n)
   refuses-it some = go n (sym number-is) some
     where
-      go : (i : ℕ) → refusal b mem (translate k a) ≡ i → (i ≡ 0 → ⊥) → Translates (translate k a) b b mem mem (Refused i)
+      go : (i : ℕ) → refusal b mem (translate k a ac) ≡ i → (i ≡ 0 → ⊥) → Translates (translate k a ac) b b mem mem (Refused i)
       go zero f s = absurd (s refl)
-      go (suc i) f s = record { outcome = sym (call-refused b mem (translate k a) i f) }
+      go (suc i) f s = record { outcome = sym (call-refused b mem (translate k a ac) i f) }
 
 -- ---- one that is accepted
-pub record Accepts (b : List ℕ) (mem : Memory) (k a : ℕ) : Type 0 where
-  pub number : refusal b mem (translate k a) ≡ 0
+pub record Accepts (b : List ℕ) (mem : Memory) (k a ac : ℕ) : Type 0 where
+  pub number : refusal b mem (translate k a ac) ≡ 0
   pub bytes : AreBytes b
 
-pub accepts : (b : List ℕ) (mem : Memory) (k a n : ℕ) → n ≡ refusal b mem (translate k a) → n ≡ 0 → AreBytes b → Accepts b mem k a
-accepts b mem k a n h z bytes = record { number = sym h ∙ z; bytes = bytes }
+pub accepts : (b : List ℕ) (mem : Memory) (k a ac n : ℕ) → n ≡ refusal b mem (translate k a ac) → n ≡ 0 → AreBytes b → Accepts b mem k a ac
+accepts b mem k a ac n h z bytes = record { number = sym h ∙ z; bytes = bytes }
 
-module _ (b : List ℕ) (mem : Memory) (k a : ℕ) (x : Accepts b mem k a) where
-  was : Given b mem (translate k a)
-  was = given b mem (translate k a) (x .number)
+module _ (b : List ℕ) (mem : Memory) (k a ac : ℕ) (x : Accepts b mem k a ac) where
+  was : Given b mem (translate k a ac)
+  was = given b mem (translate k a ac) (x .number)
 
   pub long : length b ≡ 2048
   long = was .0 .long
@@ -66,32 +68,32 @@ module _ (b : List ℕ) (mem : Memory) (k a : ℕ) (x : Accepts b mem k a) where
   pub whole : length mem % 8 ≡ 0
   whole = omega (arith, was .2)
 
-  accepts-it : (o : After) → accepted (decode b) mem (translate k a) ≡ o → (b′ : List ℕ) (mem′ : Memory) (r : Answer) → Encodes o b′ mem′ r
-      → Translates (translate k a) b b′ mem mem′ r
+  accepts-it : (o : After) → accepted (decode b) mem (translate k a ac) ≡ o → (b′ : List ℕ) (mem′ : Memory) (r : Answer) → Encodes o b′ mem′ r
+      → Translates (translate k a ac) b b′ mem mem′ r
   accepts-it o f b′ mem′ r h =
       record {
         outcome =
             (λ j. record { answer = h .answer j; image = h .image j; memory = h .memory j })
             ∙ ap encoded (sym f)
-            ∙ sym (call-accepted b mem (translate k a) (x .number));
+            ∙ sym (call-accepted b mem (translate k a ac) (x .number));
       }
 
-  pub flat : pg (decode b .flags) ≡ false → Translates (translate k a) b b mem mem (Address a 0 0)
+  pub flat : pg (decode b .flags) ≡ false → Translates (translate k a ac) b b mem mem (Address a 0 0)
   flat off =
-      accepts-it _ (ap (λ (y : Bool). translated y (decode b) mem (accessOf k) a) off) b mem (Address a 0 0)
+      accepts-it _ (ap (λ (y : Bool). translated y (decode b) mem (accessOf k ac) a) off) b mem (Address a 0 0)
       (record { answer = refl; image = sym (usable .image .says); memory = refl })
 
-  pub goes-on : pg (decode b .flags) ≡ true → (b′ : List ℕ) (mem′ : Memory) (r : Answer) → Encodes (looked (decode b) mem (accessOf k) a (find (decode b) a)) b′ mem′ r
-      → Translates (translate k a) b b′ mem mem′ r
-  goes-on on b′ mem′ r g = accepts-it _ (ap (λ (y : Bool). translated y (decode b) mem (accessOf k) a) on) b′ mem′ r g
+  pub goes-on : pg (decode b .flags) ≡ true → (b′ : List ℕ) (mem′ : Memory) (r : Answer) → Encodes (looked (decode b) mem (accessOf k ac) a (find (decode b) a)) b′ mem′ r
+      → Translates (translate k a ac) b b′ mem mem′ r
+  goes-on on b′ mem′ r g = accepts-it _ (ap (λ (y : Bool). translated y (decode b) mem (accessOf k ac) a) on) b′ mem′ r g
 
-  module _ (on : pg (decode b .flags) ≡ true) (b′ : List ℕ) (h : Held) (finds : Finds b b′ (accessOf k) a h) where
-    pub by-held : (v l : ℕ) → h ≡ HeldPage v l → Translates (translate k a) b b′ mem mem (Address v l 0)
+  module _ (on : pg (decode b .flags) ≡ true) (n : ℕ) (is : IsAccess (decode b .flags) n (accessOf k ac)) (b′ : List ℕ) (h : Held) (finds : Finds b b′ n a h) where
+    pub by-held : (v l : ℕ) → h ≡ HeldPage v l → Translates (translate k a ac) b b′ mem mem (Address v l 0)
     by-held v l e =
-        let f : Finds b b′ (accessOf k) a (HeldPage v l) = subst (Finds b b′ (accessOf k) a) e finds in
-        goes-on on b′ mem (Address v l 0) (rw (f .1 mem) (record { answer = refl; image = f .0 ∙ sym (usable .image .says); memory = refl }))
+        let f : Finds b b′ n a (HeldPage v l) = subst (Finds b b′ n a) e finds in
+        goes-on on b′ mem (Address v l 0) (rw (f .1 (accessOf k ac) is mem) (record { answer = refl; image = f .0 ∙ sym (usable .image .says); memory = refl }))
 
-    pub by-walk : h ≡ Nothing → (b″ : List ℕ) (mem′ : Memory) (r : Answer) → Encodes (missed (decode b′) mem (accessOf k) a) b″ mem′ r
-        → Translates (translate k a) b b″ mem mem′ r
+    pub by-walk : h ≡ Nothing → (b″ : List ℕ) (mem′ : Memory) (r : Answer) → ForEach (decode b′ .flags) n (λ q. Encodes (missed (decode b′) mem q a) b″ mem′ r)
+        → Translates (translate k a ac) b b″ mem mem′ r
     by-walk e b″ mem′ r g =
-        goes-on on b″ mem′ r (subst (λ (y : After). Encodes y b″ mem′ r) (sym (subst (Finds b b′ (accessOf k) a) e finds .1 mem)) g)
+        goes-on on b″ mem′ r (still-walked b b′ n a h finds e (λ (y : After). Encodes y b″ mem′ r) mem g (accessOf k ac) is)

@@ -81,7 +81,7 @@ fn is_same(a: bool, b: bool) -> bool
     if a { b } else { !b }
 }
 
-// No flag differs, but for write protect.
+// No flag differs, but for those by which rights are judged alone: write protect, SMEP and SMAP.
 fn same_mode(value: u64, flags: u64) -> bool
     ensures { λ r. ⌜ r ≡ sameMode value flags ⌝ }
 {
@@ -91,7 +91,7 @@ fn same_mode(value: u64, flags: u64) -> bool
         & is_same(words::is_on(4, value), words::is_on(4, flags))
 }
 
-// The flags are written; everything is dropped if one changes, but for write protect.
+// The flags are written; everything is dropped if one changes that is not of rights alone.
 pub fn write_mode(image: &mut [u8], value: u64) -> Answer
     ensures { λ r. ⌜ Leaves (writeMode value) (now (image .entry)) (now (image .exit)) r ⌝ }
 {

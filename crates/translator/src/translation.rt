@@ -4,9 +4,9 @@ ghost use Rattle.translator.specs.Contract.{Translates};
 use paging::Held;
 use rules::Answer;
 
-// An address's physical address, or its fault, with cause and level.
-pub fn translate(image: &mut [u8], mem: &mut [u8], kind: u64, a: u64) -> Answer
-    ensures { λ r. ⌜ Translates (translateOf kind a) (now (image .entry)) (now (image .exit)) (now (mem .entry)) (now (mem .exit)) r ⌝ }
+// An address's physical address, or its fault, with cause and level. AC is set by any number but 0.
+pub fn translate(image: &mut [u8], mem: &mut [u8], kind: u64, a: u64, ac: u64) -> Answer
+    ensures { λ r. ⌜ Translates (translateOf kind a ac) (now (image .entry)) (now (image .exit)) (now (mem .entry)) (now (mem .exit)) r ⌝ }
 {
     let unfit = refusals::is_unfit(image);
     let beyond = refusals::beyond_pages(mem);
@@ -22,12 +22,13 @@ pub fn translate(image: &mut [u8], mem: &mut [u8], kind: u64, a: u64) -> Answer
             read: 0,
         };
     }
-    match paging::find_held(image, kind, a) {
+    let access = numbers::access_of(image, kind, ac);
+    match paging::find_held(image, access, a) {
         Held::Page(value, size) => Answer::Address {
             value,
             size,
             read: 0,
         },
-        Held::Nothing => paging::walked(image, mem, kind, a),
+        Held::Nothing => paging::walked(image, mem, access, a),
     }
 }

@@ -63,9 +63,9 @@ pub fn word(mem: &[u8; 24576], at: usize) -> u64
 }
 
 pub fn translate(image: &mut [u8; 2048], mem: &mut [u8; 24576], kind: u64, a: u64) -> Told
-    ensures { λ r. ⌜ CameWith (translateOf kind a) (now (image .entry)) (now (image .exit)) (now (mem .entry)) (now (mem .exit)) r ⌝ }
+    ensures { λ r. ⌜ CameWith (translateOf kind a 0) (now (image .entry)) (now (image .exit)) (now (mem .entry)) (now (mem .exit)) r ⌝ }
 {
-    report::told_of(translation::translate(image, mem, kind, a))
+    report::told_of(translation::translate(image, mem, kind, a, 0))
 }
 
 pub fn write_cr3(image: &mut [u8; 2048], value: u64) -> Told

@@ -24,11 +24,14 @@ pub not-not : (b : Bool) → not (not b) ≡ b
 not-not true = refl
 not-not false = refl
 
--- ---- a turned entry: bits 0, 1, 2, 5 and 6 are turned over, and from 7 on it is the entry
-pub turn-over : (k e : ℕ) → 0x67 / 2 ^ k % 2 ≡ 1 → isOn k (turned e) ≡ not (isOn k e)
-turn-over k e h =
-    rw (xor-shr e 0x67 k, xor-mod (e / 2 ^ k) (0x67 / 2 ^ k) 1, h)
+-- ---- bits that are turned over. Of a turned entry these are 0, 1, 2, 5 and 6, and from 7 on it is the entry
+pub xor-over : (k e m : ℕ) → m / 2 ^ k % 2 ≡ 1 → isOn k (bitXor e m) ≡ not (isOn k e)
+xor-over k e m h =
+    rw (xor-shr e m k, xor-mod (e / 2 ^ k) (m / 2 ^ k) 1, h)
     (ap (λ (p : ℕ). eqb (bitXor p 1) 1) (on-one k e) ∙ same 1 (λ p. eqb (bitXor (one p) 1) 1) not refl (isOn k e))
+
+pub turn-over : (k e : ℕ) → 0x67 / 2 ^ k % 2 ≡ 1 → isOn k (turned e) ≡ not (isOn k e)
+turn-over k e h = xor-over k e 0x67 h
 
 pub turn-high : (e : ℕ) → turned e / 2 ^ 7 ≡ e / 2 ^ 7
 turn-high e = xor-shr e 0x67 7 ∙ xor-zero-r (e / 2 ^ 7)

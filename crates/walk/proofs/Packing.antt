@@ -5,11 +5,11 @@ use mathlib.Core.Path.{_≡_, refl}
 use mathlib.Core.Bool.{Bool, true, false, cond, _&&_, _||_, not}
 use native.Mathlib.Omega.{arith}
 use lib.Dec.{eqb}
-use lib.Bits.{bitAnd, bitOr, or-shifted-r}
+use lib.Bits.{bitAnd, bitOr, bitXor, and-zero-r, or-shifted-r}
 use borrow.Author.Tests.{le-leb, lt-leb, not-false}
 use Rattle.rules.specs.Bits.{bit, isOn, one}
 use Rattle.rules.specs.Image.{wp}
-use Rattle.rules.specs.Entries.{allows}
+use Rattle.rules.specs.Entries.{keepsOff, allows}
 use Rattle.rules.specs.Walk.{Leaf, reached}
 use Rattle.rules.specs.declared.Control.{Control}
 use Rattle.rules.specs.declared.Access.{Access}
@@ -20,10 +20,10 @@ use Rattle.rules.specs.declared.Found.the-variants.{Page, Fault}
 use Rattle.rules.proofs.BoolLaws.{same}
 use Rattle.rules.proofs.BitLaws.{one-le, flag-back}
 use Rattle.words.proofs.Masks.{and-flag}
-use Rattle.numbers.specs.Needs.{neededOf}
+use Rattle.numbers.specs.Needs.{neededOf, clearOf}
 use Rattle.numbers.proofs.Laws.{has-bits}
 use Rattle.walk.specs.Packed.{packPage, packEnd, causeCode, packFault, levelIn, unpackOf}
-use Rattle.walk.proofs.Masks.{not-not}
+use Rattle.walk.proofs.Masks.{not-not, xor-over}
 
 zero-off : (b : Bool) → one b ≡ 0 → b ≡ false
 zero-off true h = absurd (omega arith)
@@ -34,6 +34,13 @@ dirty-split true true = refl
 dirty-split true false = refl
 dirty-split false true = refl
 dirty-split false false = refl
+
+-- a bit that must be clear is turned over before it is looked at
+turned-test : (x : ℕ) (o : Bool) → eqb (bitAnd (bitXor x (2 * one o)) (2 * one o)) 0 ≡ not (o && not (isOn 1 x))
+turned-test x false = rw (and-zero-r (bitXor x 0))
+turned-test x true =
+    rw (and-flag 1 (bitXor x 2) 0 (omega arith) true, and-zero-r (bitXor x 2), xor-over 1 x 2 refl)
+    (same 1 (λ t. eqb (one (not t) * 2 + 0) 0) (λ t. not (true && not t)) refl (isOn 1 x))
 
 -- ---- a page, with whether each entry on the way was accessed
 module _ (p : Leaf) (a : Bool) where
@@ -113,13 +120,20 @@ module _ (p : Leaf) (a : Bool) where
       low-bits : lacks % 8 ≡ barred
       low-bits = rw lacks-are (omega (arith, one-le no-fetch, one-le no-user, one-le no-write))
 
-      pub allow-test : eqb (lacks % 8) 0 ≡ allows c k (p .rights)
+      -- what must be clear, and the page has
+      abbrev pub has : ℕ
+      has = bitAnd (bitXor (packEnd (reached p) a) (clearOf (c .flags) k)) (clearOf (c .flags) k)
+
+      clear-test : eqb has 0 ≡ not (keepsOff (c .flags) k && r .user)
+      clear-test = rw (turned-test number (keepsOff (c .flags) k), lacks-user, not-not (r .user))
+
+      pub allow-test : (eqb (lacks % 8) 0 && eqb has 0) ≡ allows c k (p .rights)
       allow-test =
-          rw low-bits
-          (same 7
-          (λ f u w p x y z. eqb (one (f && not x) * 4 + (one (u && not y) * 2 + one (w && (u || p) && not z))) 0)
-          (λ f u w p x y z. (not u || y) && (not w || z || (not u && not p)) && (not f || x))
-          refl (k .fetch) (k .user) (k .write) (wp (c .flags)) (r .executable) (r .user) (r .writable))
+          rw (low-bits, clear-test)
+          (same 8
+          (λ f u w p x y z o. eqb (one (f && not x) * 4 + (one (u && not y) * 2 + one (w && (u || p) && not z))) 0 && not (o && y))
+          (λ f u w p x y z o. (not u || y) && (not w || z || (not u && not p)) && (not f || x) && not (o && y))
+          refl (k .fetch) (k .user) (k .write) (wp (c .flags)) (r .executable) (r .user) (r .writable) (keepsOff (c .flags) k))
 
       -- nothing is lacking
       pub has-marks : lacks ≡ 0 → (a ≡ true) × ((k .write && not (p .dirty)) ≡ false)

@@ -1,6 +1,6 @@
 -- The whole walk, from the top level on: what the number that comes back says is what the rules' walk finds, its count included.
 -- The count follows from the level at which the walk ended, since each level that is passed is an entry read.
-use Prim.Native.Nat.{ℕ, _+_, _-_, _*_, _%_, _^_, _≤_, _<_}
+use Prim.Native.Nat.{ℕ, _+_, _-_, _*_, _/_, _%_, _^_, _≤_, _<_}
 use mathlib.Core.Path.{_≡_, refl, ap, _∙_}
 use mathlib.Core.Bool.{Bool, true, false, _||_}
 use native.Mathlib.Omega.{arith}
@@ -12,6 +12,8 @@ use Rattle.rules.specs.declared.Access.{Access}
 use Rattle.rules.specs.declared.Cause.the-variants.{Protection}
 use Rattle.rules.specs.declared.Found.{Found}
 use Rattle.rules.proofs.WalkLaws.{endLevel, ended, is-leaf, leaf-base}
+use Rattle.numbers.specs.Needs.{neededOf, ForEach, Known}
+use Rattle.numbers.proofs.Laws.{clear-is}
 use Rattle.walk.specs.Packed.{Ready, barsOf, packEnd, packReach, allAccessed, packFound, levelIn, unpackOf, Did, Settled, Down, Walks}
 use Rattle.walk.proofs.Packing.{page-high, page-level, page-back, fault-level, fault-back}
 
@@ -60,7 +62,7 @@ module _ (mem : Memory) (c : Control) (a : ℕ) where
     walked : (r : Found) → r ≡ unpackOf m → _≡_ {A = Walked} (record { found = r; memory = mem′ }) (walk c k a mem)
     walked r h = λ i. record { found = (h ∙ ap unpackOf (did .number) ∙ both k .1) i; memory = did .memory i }
 
-  module _ (need bars n : ℕ) (ready : Ready c need mem) (bars-are : bars ≡ barsOf c) (down : Down mem (a * 2 ^ 16 % 2 ^ 64) 4 (c .root) 0 bars n) where
+  module _ (access bars n : ℕ) (ready : Ready c mem) (known : Known (c .flags) access) (bars-are : bars ≡ barsOf c) (down : Down mem (a * 2 ^ 16 % 2 ^ 64) 4 (c .root) 0 bars n) where
     packs : n ≡ packReach true (entryAt mem) reaches
     packs = down .finds c a (record { wide = ready .wide; narrow = ready .narrow; are = bars-are }) refl
 
@@ -75,14 +77,18 @@ module _ (mem : Memory) (c : Control) (a : ℕ) where
             absurd (omega (arith, page-high p (allAccessed (entryAt mem) (reaches .path))))
 
     pub stuck-fits : n < 2048 → levelIn n ≤ 5
-    stuck-fits h = level-fits (ready .access) mem n (fell h (ready .access))
+    stuck-fits h = level-fits (known .access) mem n (fell h (known .access))
 
-    pub stuck-walked : n < 2048 → (r : Found) → r ≡ unpackOf n → Walks c need a mem mem r
+    pub stuck-walked : n < 2048 → (r : Found) → r ≡ unpackOf n → Walks c access a mem mem r
     stuck-walked h r e = record { walks = λ k q. walked k mem n (fell h k) r e }
 
-    module _ (high : 2048 ≤ n) (m : ℕ) (mem′ : Memory) (settled : Settled mem mem′ (c .root) a n need m) where
-      pub page-fits : levelIn m ≤ 5
-      page-fits = level-fits (ready .access) mem′ m (settled .did c (ready .access) ready refl (ready .asks) high packs)
+    module _ (high : 2048 ≤ n) (need m : ℕ) (mem′ : Memory) (needs : ForEach (c .flags) access (λ k. need ≡ neededOf (c .flags) k))
+        (settled : Settled mem mem′ (c .root) a n need (access / 8) m) where
+      did : ForEach (c .flags) access (λ k. Did c k reaches mem mem′ m)
+      did k is = settled .did c k ready refl (needs k is) (clear-is (c .flags) access k is) high packs
 
-      pub page-walked : (r : Found) → r ≡ unpackOf m → Walks c need a mem mem′ r
-      page-walked r e = record { walks = λ k q. walked k mem′ m (settled .did c k ready refl q high packs) r e }
+      pub page-fits : levelIn m ≤ 5
+      page-fits = level-fits (known .access) mem′ m (did (known .access) (known .is))
+
+      pub page-walked : (r : Found) → r ≡ unpackOf m → Walks c access a mem mem′ r
+      page-walked r e = record { walks = λ k is. walked k mem′ m (did k is) r e }

@@ -20,17 +20,15 @@ use Rattle.rules.specs.declared.Cause.the-variants.{NotPresent, Reserved, Prote
 use Rattle.rules.specs.declared.Found.{Found}
 use Rattle.rules.specs.declared.Found.the-variants.{Page, Fault}
 use Rattle.formats.specs.Ranges.{maskOf}
-use Rattle.numbers.specs.Needs.{neededOf}
+use Rattle.numbers.specs.Needs.{neededOf, clearOf, ForEach}
 
--- what `walk` asks of its caller: a width, a table root below 2^52, memory in whole words, and what some access needs of a page
-pub record Ready (c : Control) (need : ℕ) (mem : Memory) : Type 0 where
+-- what `walk` asks of its caller: a width, a table root below 2^52, and memory in whole words
+pub record Ready (c : Control) (mem : Memory) : Type 0 where
   pub wide : 36 ≤ c .width
   pub narrow : c .width ≤ 52
   pub low : c .root < 2 ^ 52
   pub aligned : c .root % 8 ≡ 0
   pub whole : length mem % 8 ≡ 0
-  pub access : Access
-  pub asks : need ≡ neededOf (c .flags) access
 
 -- ---- what goes down
 -- an entry with P, RW, US, A and D turned over: then a bit that is set says that something is lacking, as XD does
@@ -152,10 +150,10 @@ pub record Did (c : Control) (k : Access) (w : Reach) (mem mem′ : Memory) (n :
   pub memory : mem′ ≡ marked c k (w .end) (w .path) mem
 
 -- of a page, by its number
-pub record Settled (mem mem′ : Memory) (root a n need r : ℕ) : Type 0 where
-  pub did : (c : Control) (k : Access) → Ready c need mem → root ≡ c .root → need ≡ neededOf (c .flags) k → 2048 ≤ n
+pub record Settled (mem mem′ : Memory) (root a n need clear r : ℕ) : Type 0 where
+  pub did : (c : Control) (k : Access) → Ready c mem → root ≡ c .root → need ≡ neededOf (c .flags) k → clear ≡ clearOf (c .flags) k → 2048 ≤ n
       → n ≡ packReach true (entryAt mem) (reachIn mem c a) → Did c k (reachIn mem c a) mem mem′ r
 
--- ---- the whole walk, for whatever access needs this
-pub record Walks (c : Control) (need a : ℕ) (mem mem′ : Memory) (f : Found) : Type 0 where
-  pub walks : (k : Access) → need ≡ neededOf (c .flags) k → _≡_ {A = Walked} (record { found = f; memory = mem′ }) (walk c k a mem)
+-- ---- the whole walk, for whatever access has this number
+pub record Walks (c : Control) (access a : ℕ) (mem mem′ : Memory) (f : Found) : Type 0 where
+  pub walks : ForEach (c .flags) access (λ k. _≡_ {A = Walked} (record { found = f; memory = mem′ }) (walk c k a mem))

@@ -7,7 +7,9 @@ ghost use Prim.Native.Nat.{_+_, _*_, _/_, _%_, _^_, _≤_, _<_};
 ghost use lib.ListN.{length};
 ghost use Rattle.rules.specs.Bits.{isOn, part};
 ghost use Rattle.rules.specs.Memory.{entryAt};
-ghost use Rattle.walk.specs.Packed.{Ready, bitsOf, markedAt, isReservedPage, rightsOf, accessedIn, packPage, Stops, Ended, Down, MarkedDown, barsOf, Settled, levelIn, unpackOf, Walks};
+ghost use Rattle.walk.specs.Packed.{Ready, bitsOf, markedAt, isReservedPage, rightsOf, accessedIn, packPage, Stops, Ended, Down, MarkedDown, barsOf, Settled, levelIn, packFault, unpackOf, Walks};
+ghost use Rattle.rules.specs.declared.Cause.the-variants.{Protection};
+ghost use Rattle.numbers.specs.Needs.{Known};
 use rules::Cause;
 use rules::Control;
 use rules::Found;
@@ -131,17 +133,27 @@ fn bars_of(c: Control) -> u64
     formats::reserved(2, false, c.width, words::is_on(4, c.flags)) + 0x81
 }
 
-// Whether an access that needs this may use the page that was reached; if so, the page lacks no mark afterwards.
-fn settle(mem: &mut [u8], root: u64, a: u64, n: u64, need: u64) -> u64
-    requires { ⌜ (root < 2 ^ 52) × ((root % 8 ≡ 0) × (length (now mem) % 8 ≡ 0)) ⌝ }
-    ensures { λ r. ⌜ Settled (now (mem .entry)) (now (mem .exit)) root a n need r ⌝ }
+// The page that was reached may not be used: a fault at its level.
+fn protection(n: u64) -> u64
+    ensures { λ r. ⌜ r ≡ packFault Protection (levelIn n) ⌝ }
 {
+    n / 32 % 8 * 32 + 2
+}
+
+// Whether an access may use the page that was reached, by what it needs of it and what must be clear, which the page then lacks; if so, the page lacks no mark afterwards.
+fn settle(mem: &mut [u8], root: u64, a: u64, n: u64, need: u64, clear: u64) -> u64
+    requires { ⌜ (root < 2 ^ 52) × ((root % 8 ≡ 0) × (length (now mem) % 8 ≡ 0)) ⌝ }
+    ensures { λ r. ⌜ Settled (now (mem .entry)) (now (mem .exit)) root a n need clear r ⌝ }
+{
+    if (n ^ clear) & clear != 0 {
+        return protection(n);
+    }
     let lacks = n & (need | 16);
     if lacks == 0 {
         return n;
     }
     if lacks % 8 != 0 {
-        return n / 32 % 8 * 32 + 2;
+        return protection(n);
     }
     let bits = (32 + need / 8 % 2 * 64) as u8;
     mark_down(mem, root, a << 16, 4, n / 32 % 8, bits);
@@ -190,14 +202,15 @@ fn unpack(n: u64) -> Found
     }
 }
 
-// The walk of an address for an access that needs this of a page: what it finds, with the accessed and dirty bits added to memory.
-pub fn walk(mem: &mut [u8], c: Control, need: u64, a: u64) -> Found
-    requires { ⌜ Ready c need (now mem) ⌝ }
-    ensures { λ r. ⌜ Walks c need a (now (mem .entry)) (now (mem .exit)) r ⌝ }
+// The walk of an address for an access: what it finds, with the accessed and dirty bits added to memory. What the access asks of a page is worked out once there is one.
+pub fn walk(mem: &mut [u8], c: Control, access: u64, a: u64) -> Found
+    requires { ⌜ Ready c (now mem) × Known (c .flags) access ⌝ }
+    ensures { λ r. ⌜ Walks c access a (now (mem .entry)) (now (mem .exit)) r ⌝ }
 {
     let n = down(mem, c.root, a << 16, 4, bars_of(c), 0);
     if n < 2048 {
         return unpack(n);
     }
-    unpack(settle(mem, c.root, a, n, need))
+    let need = numbers::needed(c.flags, access);
+    unpack(settle(mem, c.root, a, n, need, access / 8))
 }

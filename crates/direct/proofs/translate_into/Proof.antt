@@ -5,7 +5,9 @@ use native.Mathlib.Omega.{arith}
 use lib.ListN.{length}
 use Rattle.rules.specs.Image.{decode, pg}
 use Rattle.rules.specs.Refusals.{translate, refusal}
+use Rattle.rules.specs.Calls.{accessOf}
 use Rattle.refusals.specs.Asked.{Asked}
+use Rattle.numbers.specs.Needs.{IsAccess}
 use Rattle.buffer.proofs.Looking.{begins-middle, begins-large}
 use Rattle.translator.proofs.Translating.{Accepts, accepts, long, paging-on, paging-off, known}
 use Rattle.direct.proofs.Recording.{turned-away, through, small-right, writes-refusal, lent, writes-flat, writes-looked, writes-small, writes-walk}
@@ -22,20 +24,26 @@ looked s = s .before .before .before .before .before .before
 asked : (t : tie.After-translate-refusal) → Asked (start t .args .image .now) (start t .args .mem .now) (t .before .before .before .before .before .is-unfit .result) (t .before .before .before .beyond-pages .result) (t .before .is-paged .result)
 asked t = record { image = t .before .before .before .before .before .is-unfit .ensures; memory = t .before .before .before .beyond-pages .ensures; paging = t .before .is-paged .ensures }
 
-number : (t : tie.After-translate-refusal) → t .translate-refusal .result ≡ refusal (start t .args .image .now) (start t .args .mem .now) (translate (start t .args .kind) (start t .args .a))
-number t = t .translate-refusal .ensures (start t .args .image .now) (start t .args .mem .now) (asked t)
+number : (t : tie.After-translate-refusal) → t .translate-refusal .result ≡ refusal (start t .args .image .now) (start t .args .mem .now) (translate (start t .args .kind) (start t .args .a) (start t .args .ac))
+number t = t .translate-refusal .ensures (start t .args .image .now) (start t .args .mem .now) (start t .args .ac) (asked t)
 
-taken : (e : tie.Else2) → Accepts (start (e .before) .args .image .now) (start (e .before) .args .mem .now) (start (e .before) .args .kind) (start (e .before) .args .a)
-taken e = accepts _ _ _ _ (e .before .translate-refusal .result) (number (e .before)) (e .if2 .left) (λ j. omega (arith, e .before .before .before .before .before .before .before .before .before .before .before .slice-known .given j))
+taken : (e : tie.Else2) → Accepts (start (e .before) .args .image .now) (start (e .before) .args .mem .now) (start (e .before) .args .kind) (start (e .before) .args .a) (start (e .before) .args .ac)
+taken e = accepts _ _ _ _ _ (e .before .translate-refusal .result) (number (e .before)) (e .if2 .left) (λ j. omega (arith, e .before .before .before .before .before .before .before .before .before .before .before .slice-known .given j))
 
 off : (p : tie.Then3) → pg (decode (start (p .before .before) .args .image .now) .flags) ≡ false
-off p = paging-off _ _ _ _ (taken (p .before)) _ _ _ (asked (p .before .before)) (p .if3 .taken)
+off p = paging-off _ _ _ _ _ (taken (p .before)) _ _ _ (asked (p .before .before)) (p .if3 .taken)
 
 on : (p : tie.Else3) → pg (decode (start (p .before .before) .args .image .now) .flags) ≡ true
-on p = paging-on _ _ _ _ (taken (p .before)) _ _ _ (asked (p .before .before)) (p .if3 .left)
+on p = paging-on _ _ _ _ _ (taken (p .before)) _ _ _ (asked (p .before .before)) (p .if3 .left)
 
 right : (e : tie.Else2) → length (start (e .before) .args .answer .now) ≡ 32
 right e = e .before .before .before .before .before .before .before .before .if1 .left
+
+abbrev paged : tie.After-first → tie.Else3
+paged f = f .before .before .before .before
+
+named : (f : tie.After-first) → IsAccess (decode (start (paged f .before .before) .args .image .now) .flags) (f .before .before .access-of .result) (accessOf (start (paged f .before .before) .args .kind) (start (paged f .before .before) .args .ac))
+named f = f .before .before .access-of .ensures
 
 returns : tie.Need-returns
 returns c = search turned-away
@@ -84,10 +92,15 @@ same-length-6 c = search needs
 returns-3 : tie.Need-returns-3
 returns-3 c =
     through _ _ _ _ _ _ _ _ (right (c .before .before .before .before .before))
-    (writes-flat _ _ _ _ (taken (c .before .before .before .before .before)) (off (c .before .before .before .before)) _ (c .before .before .put .ensures))
+    (writes-flat _ _ _ _ _ (taken (c .before .before .before .before .before)) (off (c .before .before .before .before)) _ (c .before .before .put .ensures))
+
+access-of-requires : tie.Need-access-of-requires
+access-of-requires c κs =
+    let x = taken (c .before .before) in
+    (long _ _ _ _ _ x, known _ _ _ _ _ x)
 
 first-requires : tie.Need-first-requires
-first-requires c κs = long _ _ _ _ (taken (c .before .before))
+first-requires c κs = long _ _ _ _ _ (taken (c .before .before .before .before))
 
 enum-known-at : tie.Need-enum-known-at
 enum-known-at c = search needs
@@ -95,8 +108,7 @@ enum-known-at c = search needs
 serve-requires : tie.Need-serve-requires
 serve-requires c κs =
     let f = c .before .before .before .before .before in
-    let x = taken (f .before .before .before) in
-    (long _ _ _ _ x, (search needs, (known _ _ _ _ x, search small-right)))
+    (long _ _ _ _ _ (taken (paged f .before)), (search needs, search small-right))
 
 same-length-7 : tie.Need-same-length-7
 same-length-7 c = search needs
@@ -111,11 +123,13 @@ returns-4 : tie.Need-returns-4
 returns-4 c =
     let s = c .before .before .before in
     let f = looked s in
-    through _ _ _ _ _ _ _ _ (right (f .before .before .before))
-    (writes-small _ _ _ _ (taken (f .before .before .before)) (on (f .before .before)) (f .first .result) (f .first .ensures) _ _ _ _ (s .serve .ensures) (c .if4 .taken) (search needs))
+    through _ _ _ _ _ _ _ _ (right (paged f .before))
+    (writes-small _ _ _ _ _ (taken (paged f .before)) _ (named f) (on (paged f)) (f .first .result) (f .first .ensures) _ _ _ _ (s .serve .ensures) (c .if4 .taken) (search needs))
 
 look-through-requires : tie.Need-look-through-requires
-look-through-requires c κs = lent _ _ _ _ (taken (looked (c .before .before .before .before .before .before) .before .before .before)) _ (search needs)
+look-through-requires c κs =
+    let f = looked (c .before .before .before .before .before .before) in
+    lent _ _ _ _ _ (taken (paged f .before)) _ (named f) _ (search needs)
 
 enum-told : tie.Need-enum-told
 enum-told c = search needs
@@ -123,7 +137,7 @@ enum-told c = search needs
 look-middle-requires : tie.Need-look-middle-requires
 look-middle-requires c κs =
     let f = c .before .before .before .before .before in
-    (lent _ _ _ _ (taken (f .before .before .before)) _ (search needs), search begins-middle)
+    (lent _ _ _ _ _ (taken (paged f .before)) _ (named f) _ (search needs), search begins-middle)
 
 enum-told-2 : tie.Need-enum-told-2
 enum-told-2 c = search needs
@@ -131,7 +145,7 @@ enum-told-2 c = search needs
 look-large-requires : tie.Need-look-large-requires
 look-large-requires c κs =
     let f = c .before .before .before .before .before in
-    (lent _ _ _ _ (taken (f .before .before .before)) _ (search needs), search begins-large)
+    (lent _ _ _ _ _ (taken (paged f .before)) _ (named f) _ (search needs), search begins-large)
 
 enum-told-3 : tie.Need-enum-told-3
 enum-told-3 c = search needs
@@ -139,7 +153,7 @@ enum-told-3 c = search needs
 missed-requires : tie.Need-missed-requires
 missed-requires c κs =
     let f = c .before .before .before .before .before in
-    lent _ _ _ _ (taken (f .before .before .before)) _ (search needs)
+    lent _ _ _ _ _ (taken (paged f .before)) _ (named f) _ (search needs)
 
 same-length-10 : tie.Need-same-length-10
 same-length-10 c = search needs
@@ -155,8 +169,8 @@ returns-5 c =
     let w = c .before .before .before .before .before .before in
     let s = w .before .before .before .before .before .before .before in
     let f = looked s in
-    through _ _ _ _ _ _ _ _ (right (f .before .before .before))
-    (writes-looked _ _ _ _ (taken (f .before .before .before)) (on (f .before .before)) _ _ _ _ (w .look-through .ensures))
+    through _ _ _ _ _ _ _ _ (right (paged f .before))
+    (writes-looked _ _ _ _ _ (taken (paged f .before)) _ (named f) (on (paged f)) _ _ _ _ (w .look-through .ensures))
 
 same-length-13 : tie.Need-same-length-13
 same-length-13 c = search needs
@@ -171,8 +185,8 @@ returns-6 : tie.Need-returns-6
 returns-6 c =
     let w = c .before .before .before .before .before .before in
     let f = w .before .before .before .before .before .before in
-    through _ _ _ _ _ _ _ _ (right (f .before .before .before))
-    (writes-looked _ _ _ _ (taken (f .before .before .before)) (on (f .before .before)) _ _ _ _ (w .look-middle .ensures))
+    through _ _ _ _ _ _ _ _ (right (paged f .before))
+    (writes-looked _ _ _ _ _ (taken (paged f .before)) _ (named f) (on (paged f)) _ _ _ _ (w .look-middle .ensures))
 
 same-length-16 : tie.Need-same-length-16
 same-length-16 c = search needs
@@ -187,8 +201,8 @@ returns-7 : tie.Need-returns-7
 returns-7 c =
     let w = c .before .before .before .before .before .before in
     let f = w .before .before .before .before .before .before in
-    through _ _ _ _ _ _ _ _ (right (f .before .before .before))
-    (writes-looked _ _ _ _ (taken (f .before .before .before)) (on (f .before .before)) _ _ _ _ (w .look-large .ensures))
+    through _ _ _ _ _ _ _ _ (right (paged f .before))
+    (writes-looked _ _ _ _ _ (taken (paged f .before)) _ (named f) (on (paged f)) _ _ _ _ (w .look-large .ensures))
 
 same-length-19 : tie.Need-same-length-19
 same-length-19 c = search needs
@@ -203,8 +217,8 @@ returns-8 : tie.Need-returns-8
 returns-8 c =
     let w = c .before .before .before .before .before .before in
     let f = w .before .before .before .before .before .before in
-    through _ _ _ _ _ _ _ _ (right (f .before .before .before))
-    (writes-walk _ _ _ _ (taken (f .before .before .before)) (on (f .before .before)) (f .first .result) (f .first .ensures) (search needs) _ _ _ _ (w .missed .ensures))
+    through _ _ _ _ _ _ _ _ (right (paged f .before))
+    (writes-walk _ _ _ _ _ (taken (paged f .before)) _ (named f) (on (paged f)) (f .first .result) (f .first .ensures) (search needs) _ _ _ _ (w .missed .ensures))
 
 pub translate-into-spec : {M : Type 1} → statement M
 translate-into-spec =
@@ -225,6 +239,7 @@ translate-into-spec =
     same-length-5
     same-length-6
     returns-3
+    access-of-requires
     first-requires
     enum-known-at
     serve-requires

@@ -4,7 +4,9 @@ use mathlib.Core.Bool.{true, false}
 use native.Mathlib.Omega.{arith}
 use Rattle.rules.specs.Image.{decode, pg}
 use Rattle.rules.specs.Refusals.{translate, refusal}
+use Rattle.rules.specs.Calls.{accessOf}
 use Rattle.refusals.specs.Asked.{Asked}
+use Rattle.numbers.specs.Needs.{IsAccess}
 use Rattle.buffer.proofs.Looking.{begins-middle, begins-large}
 use Rattle.translator.proofs.Translating.{Accepts, accepts, long, paging-on, paging-off, known}
 use Rattle.direct.proofs.Recording.{small-right, writes-refusal, lent, writes-flat, writes-looked, writes-small, writes-walk}
@@ -21,17 +23,23 @@ looked s = s .before .before .before .before .before .before
 asked : (t : tie.After-translate-refusal) → Asked (start t .args .image .now) (start t .args .mem .now) (start t .args .unfit) (start t .args .beyond) (start t .args .paged)
 asked t = start t .pre .1
 
-number : (t : tie.After-translate-refusal) → t .translate-refusal .result ≡ refusal (start t .args .image .now) (start t .args .mem .now) (translate (start t .args .kind) (start t .args .a))
-number t = t .translate-refusal .ensures (start t .args .image .now) (start t .args .mem .now) (asked t)
+number : (t : tie.After-translate-refusal) → t .translate-refusal .result ≡ refusal (start t .args .image .now) (start t .args .mem .now) (translate (start t .args .kind) (start t .args .a) 0)
+number t = t .translate-refusal .ensures (start t .args .image .now) (start t .args .mem .now) 0 (asked t)
 
-taken : (e : tie.Else1) → Accepts (start (e .before) .args .image .now) (start (e .before) .args .mem .now) (start (e .before) .args .kind) (start (e .before) .args .a)
-taken e = accepts _ _ _ _ (e .before .translate-refusal .result) (number (e .before)) (e .if1 .left) (λ j. omega (arith, e .before .before .before .before .slice-known .given j))
+taken : (e : tie.Else1) → Accepts (start (e .before) .args .image .now) (start (e .before) .args .mem .now) (start (e .before) .args .kind) (start (e .before) .args .a) 0
+taken e = accepts _ _ _ _ _ (e .before .translate-refusal .result) (number (e .before)) (e .if1 .left) (λ j. omega (arith, e .before .before .before .before .slice-known .given j))
 
 off : (p : tie.Then2) → pg (decode (start (p .before .before) .args .image .now) .flags) ≡ false
-off p = paging-off _ _ _ _ (taken (p .before)) _ _ _ (asked (p .before .before)) (p .if2 .taken)
+off p = paging-off _ _ _ _ _ (taken (p .before)) _ _ _ (asked (p .before .before)) (p .if2 .taken)
 
 on : (p : tie.Else2) → pg (decode (start (p .before .before) .args .image .now) .flags) ≡ true
-on p = paging-on _ _ _ _ (taken (p .before)) _ _ _ (asked (p .before .before)) (p .if2 .left)
+on p = paging-on _ _ _ _ _ (taken (p .before)) _ _ _ (asked (p .before .before)) (p .if2 .left)
+
+abbrev paged : tie.After-first → tie.Else2
+paged f = f .before .before .before .before
+
+named : (f : tie.After-first) → IsAccess (decode (start (paged f .before .before) .args .image .now) .flags) (f .before .before .access-of .result) (accessOf (start (paged f .before .before) .args .kind) 0)
+named f = f .before .before .access-of .ensures
 
 translate-refusal-requires : tie.Need-translate-refusal-requires
 translate-refusal-requires c κs = search needs
@@ -54,10 +62,15 @@ same-length-2 : tie.Need-same-length-2
 same-length-2 c = search needs
 
 returns-2 : tie.Need-returns-2
-returns-2 c = writes-flat _ _ _ _ (taken (c .before .before .before .before .before)) (off (c .before .before .before .before)) _ (c .before .before .put .ensures)
+returns-2 c = writes-flat _ _ _ _ _ (taken (c .before .before .before .before .before)) (off (c .before .before .before .before)) _ (c .before .before .put .ensures)
+
+access-of-requires : tie.Need-access-of-requires
+access-of-requires c κs =
+    let x = taken (c .before .before) in
+    (long _ _ _ _ _ x, known _ _ _ _ _ x)
 
 first-requires : tie.Need-first-requires
-first-requires c κs = long _ _ _ _ (taken (c .before .before))
+first-requires c κs = long _ _ _ _ _ (taken (c .before .before .before .before))
 
 enum-known-at : tie.Need-enum-known-at
 enum-known-at c = search needs
@@ -65,8 +78,7 @@ enum-known-at c = search needs
 serve-requires : tie.Need-serve-requires
 serve-requires c κs =
     let f = c .before .before .before .before .before in
-    let x = taken (f .before .before .before) in
-    (long _ _ _ _ x, (search needs, (known _ _ _ _ x, search small-right)))
+    (long _ _ _ _ _ (taken (paged f .before)), (search needs, search small-right))
 
 same-length-3 : tie.Need-same-length-3
 same-length-3 c = search needs
@@ -78,10 +90,12 @@ returns-3 : tie.Need-returns-3
 returns-3 c =
     let s = c .before .before .before in
     let f = looked s in
-    writes-small _ _ _ _ (taken (f .before .before .before)) (on (f .before .before)) (f .first .result) (f .first .ensures) _ _ _ _ (s .serve .ensures) (c .if3 .taken) (search needs)
+    writes-small _ _ _ _ _ (taken (paged f .before)) _ (named f) (on (paged f)) (f .first .result) (f .first .ensures) _ _ _ _ (s .serve .ensures) (c .if3 .taken) (search needs)
 
 look-through-requires : tie.Need-look-through-requires
-look-through-requires c κs = lent _ _ _ _ (taken (looked (c .before .before .before .before .before .before) .before .before .before)) _ (search needs)
+look-through-requires c κs =
+    let f = looked (c .before .before .before .before .before .before) in
+    lent _ _ _ _ _ (taken (paged f .before)) _ (named f) _ (search needs)
 
 enum-told : tie.Need-enum-told
 enum-told c = search needs
@@ -89,7 +103,7 @@ enum-told c = search needs
 look-middle-requires : tie.Need-look-middle-requires
 look-middle-requires c κs =
     let f = c .before .before .before .before .before in
-    (lent _ _ _ _ (taken (f .before .before .before)) _ (search needs), search begins-middle)
+    (lent _ _ _ _ _ (taken (paged f .before)) _ (named f) _ (search needs), search begins-middle)
 
 enum-told-2 : tie.Need-enum-told-2
 enum-told-2 c = search needs
@@ -97,7 +111,7 @@ enum-told-2 c = search needs
 look-large-requires : tie.Need-look-large-requires
 look-large-requires c κs =
     let f = c .before .before .before .before .before in
-    (lent _ _ _ _ (taken (f .before .before .before)) _ (search needs), search begins-large)
+    (lent _ _ _ _ _ (taken (paged f .before)) _ (named f) _ (search needs), search begins-large)
 
 enum-told-3 : tie.Need-enum-told-3
 enum-told-3 c = search needs
@@ -105,7 +119,7 @@ enum-told-3 c = search needs
 missed-requires : tie.Need-missed-requires
 missed-requires c κs =
     let f = c .before .before .before .before .before in
-    lent _ _ _ _ (taken (f .before .before .before)) _ (search needs)
+    lent _ _ _ _ _ (taken (paged f .before)) _ (named f) _ (search needs)
 
 same-length-5 : tie.Need-same-length-5
 same-length-5 c = search needs
@@ -121,7 +135,7 @@ returns-4 c =
     let w = c .before .before .before .before .before .before in
     let s = w .before .before .before .before .before .before .before in
     let f = looked s in
-    writes-looked _ _ _ _ (taken (f .before .before .before)) (on (f .before .before)) _ _ _ _ (w .look-through .ensures)
+    writes-looked _ _ _ _ _ (taken (paged f .before)) _ (named f) (on (paged f)) _ _ _ _ (w .look-through .ensures)
 
 same-length-8 : tie.Need-same-length-8
 same-length-8 c = search needs
@@ -136,7 +150,7 @@ returns-5 : tie.Need-returns-5
 returns-5 c =
     let w = c .before .before .before .before .before .before in
     let f = w .before .before .before .before .before .before in
-    writes-looked _ _ _ _ (taken (f .before .before .before)) (on (f .before .before)) _ _ _ _ (w .look-middle .ensures)
+    writes-looked _ _ _ _ _ (taken (paged f .before)) _ (named f) (on (paged f)) _ _ _ _ (w .look-middle .ensures)
 
 same-length-11 : tie.Need-same-length-11
 same-length-11 c = search needs
@@ -151,7 +165,7 @@ returns-6 : tie.Need-returns-6
 returns-6 c =
     let w = c .before .before .before .before .before .before in
     let f = w .before .before .before .before .before .before in
-    writes-looked _ _ _ _ (taken (f .before .before .before)) (on (f .before .before)) _ _ _ _ (w .look-large .ensures)
+    writes-looked _ _ _ _ _ (taken (paged f .before)) _ (named f) (on (paged f)) _ _ _ _ (w .look-large .ensures)
 
 same-length-14 : tie.Need-same-length-14
 same-length-14 c = search needs
@@ -166,7 +180,7 @@ returns-7 : tie.Need-returns-7
 returns-7 c =
     let w = c .before .before .before .before .before .before in
     let f = w .before .before .before .before .before .before in
-    writes-walk _ _ _ _ (taken (f .before .before .before)) (on (f .before .before)) (f .first .result) (f .first .ensures) (search needs) _ _ _ _ (w .missed .ensures)
+    writes-walk _ _ _ _ _ (taken (paged f .before)) _ (named f) (on (paged f)) (f .first .result) (f .first .ensures) (search needs) _ _ _ _ (w .missed .ensures)
 
 pub pair-spec : {M : Type 1} → statement M
 pair-spec =
@@ -179,6 +193,7 @@ pair-spec =
     put-requires
     same-length-2
     returns-2
+    access-of-requires
     first-requires
     enum-known-at
     serve-requires

@@ -1,5 +1,5 @@
 -- What the walk found is in range, and is finished.
-use Rattle.paging.proofs.Walking.{walk-ready, found-fits, its-flags, walks-it}
+use Rattle.paging.proofs.Walking.{walk-ready, known-there, found-fits, its-flags, walks-it}
 use borrow.Author.Needs.{needs}
 use Rattle.paging.proofs.walked.Statement.{statement}
 use Rattle.paging.proofs.walked.Tie as tie
@@ -7,14 +7,11 @@ use Rattle.paging.proofs.walked.Tie as tie
 control-of-requires : tie.Need-control-of-requires
 control-of-requires c κs = search needs
 
-needed-requires : tie.Need-needed-requires
-needed-requires c κs = search needs
-
 walk-requires : tie.Need-walk-requires
-walk-requires c κs = search walk-ready
+walk-requires c κs = (search walk-ready, search known-there)
 
 finish-requires : tie.Need-finish-requires
-finish-requires c κs = (search needs, (search its-flags, (search needs, search found-fits)))
+finish-requires c κs = (search needs, (search its-flags, search found-fits))
 
 same-length : tie.Need-same-length
 same-length c = search needs
@@ -30,7 +27,6 @@ walked-spec =
     tie.close
     (tie.spec
     control-of-requires
-    needed-requires
     walk-requires
     finish-requires
     same-length

@@ -34,6 +34,9 @@ read-word-requires-3 c κs = search needs
 is-outside-requires : tie.Need-is-outside-requires
 is-outside-requires c κs = search needs
 
+no-flags-requires : tie.Need-no-flags-requires
+no-flags-requires c κs = search needs
+
 returns-3 : tie.Need-returns-3
 returns-3 c = search unfit-is
 
@@ -51,4 +54,5 @@ is-unfit-spec =
     read-word-requires-2
     read-word-requires-3
     is-outside-requires
+    no-flags-requires
     returns-3)

@@ -16,6 +16,9 @@ read-word-requires-2 c κs = search needs
 is-on-requires-2 : tie.Need-is-on-requires-2
 is-on-requires-2 c κs = search needs
 
+no-flags-requires : tie.Need-no-flags-requires
+no-flags-requires c κs = search needs
+
 is-on-requires-3 : tie.Need-is-on-requires-3
 is-on-requires-3 c κs = search needs
 
@@ -30,5 +33,6 @@ no-mode-spec =
     is-on-requires
     read-word-requires-2
     is-on-requires-2
+    no-flags-requires
     is-on-requires-3
     returns)

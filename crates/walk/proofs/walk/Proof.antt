@@ -19,6 +19,9 @@ same-length c = search needs
 returns : tie.Need-returns
 returns c = search stuck-walked
 
+needed-requires : tie.Need-needed-requires
+needed-requires c κs = search needs
+
 settle-requires : tie.Need-settle-requires
 settle-requires c κs = search needs
 
@@ -40,6 +43,7 @@ walk-spec =
     unpack-requires
     same-length
     returns
+    needed-requires
     settle-requires
     unpack-requires-2
     same-length-2

@@ -5,8 +5,8 @@ use native.Mathlib.Omega.{arith}
 use Rattle.rules.specs.Image.{decode, pg}
 use Rattle.rules.specs.Refusals.{translate, refusal}
 use Rattle.refusals.specs.Asked.{Asked}
-use Rattle.paging.proofs.Holding.{still-usable}
-use Rattle.translator.proofs.Translating.{refuses-it, Accepts, accepts, paging-on, paging-off, known, usable, whole, flat, by-held, by-walk}
+use Rattle.paging.proofs.Holding.{still-usable, still-known}
+use Rattle.translator.proofs.Translating.{refuses-it, Accepts, accepts, long, paging-on, paging-off, known, usable, whole, flat, by-held, by-walk}
 use borrow.Author.Needs.{needs}
 use Rattle.translator.proofs.translation.translate.Statement.{statement}
 use Rattle.translator.proofs.translation.translate.Tie as tie
@@ -17,17 +17,20 @@ start t = t .before .before .before .before .before .before .before .before .bef
 asked : (t : tie.After-translate-refusal) → Asked (start t .args .image .now) (start t .args .mem .now) (t .before .before .before .before .before .is-unfit .result) (t .before .before .before .beyond-pages .result) (t .before .is-paged .result)
 asked t = record { image = t .before .before .before .before .before .is-unfit .ensures; memory = t .before .before .before .beyond-pages .ensures; paging = t .before .is-paged .ensures }
 
-number : (t : tie.After-translate-refusal) → t .translate-refusal .result ≡ refusal (start t .args .image .now) (start t .args .mem .now) (translate (start t .args .kind) (start t .args .a))
-number t = t .translate-refusal .ensures (start t .args .image .now) (start t .args .mem .now) (asked t)
+number : (t : tie.After-translate-refusal) → t .translate-refusal .result ≡ refusal (start t .args .image .now) (start t .args .mem .now) (translate (start t .args .kind) (start t .args .a) (start t .args .ac))
+number t = t .translate-refusal .ensures (start t .args .image .now) (start t .args .mem .now) (start t .args .ac) (asked t)
 
-taken : (e : tie.Else1) → Accepts (start (e .before) .args .image .now) (start (e .before) .args .mem .now) (start (e .before) .args .kind) (start (e .before) .args .a)
-taken e = accepts _ _ _ _ (e .before .translate-refusal .result) (number (e .before)) (e .if1 .left) (λ j. omega (arith, e .before .before .before .before .before .before .before .before .before .slice-known .given j))
+taken : (e : tie.Else1) → Accepts (start (e .before) .args .image .now) (start (e .before) .args .mem .now) (start (e .before) .args .kind) (start (e .before) .args .a) (start (e .before) .args .ac)
+taken e = accepts _ _ _ _ _ (e .before .translate-refusal .result) (number (e .before)) (e .if1 .left) (λ j. omega (arith, e .before .before .before .before .before .before .before .before .before .slice-known .given j))
 
 off : (p : tie.Then2) → pg (decode (start (p .before .before) .args .image .now) .flags) ≡ false
-off p = paging-off _ _ _ _ (taken (p .before)) _ _ _ (asked (p .before .before)) (p .if2 .taken)
+off p = paging-off _ _ _ _ _ (taken (p .before)) _ _ _ (asked (p .before .before)) (p .if2 .taken)
 
 on : (p : tie.Else2) → pg (decode (start (p .before .before) .args .image .now) .flags) ≡ true
-on p = paging-on _ _ _ _ (taken (p .before)) _ _ _ (asked (p .before .before)) (p .if2 .left)
+on p = paging-on _ _ _ _ _ (taken (p .before)) _ _ _ (asked (p .before .before)) (p .if2 .left)
+
+abbrev paged : tie.After-access-of → tie.Else2
+paged s = s .before .before
 
 is-unfit-requires : tie.Need-is-unfit-requires
 is-unfit-requires c κs = search needs
@@ -59,12 +62,15 @@ same-length-4 : tie.Need-same-length-4
 same-length-4 c = search needs
 
 returns-2 : tie.Need-returns-2
-returns-2 c = flat _ _ _ _ (taken (c .before)) (off c)
+returns-2 c = flat _ _ _ _ _ (taken (c .before)) (off c)
+
+access-of-requires : tie.Need-access-of-requires
+access-of-requires c κs =
+    let x = taken (c .before .before) in
+    (long _ _ _ _ _ x, known _ _ _ _ _ x)
 
 find-held-requires : tie.Need-find-held-requires
-find-held-requires c κs =
-    let x = taken (c .before .before) in
-    (usable _ _ _ _ x, known _ _ _ _ x)
+find-held-requires c κs = usable _ _ _ _ _ (taken (c .before .before .before .before))
 
 enum-known-value : tie.Need-enum-known-value
 enum-known-value c = search needs
@@ -75,9 +81,13 @@ enum-told c = search needs
 walked-requires : tie.Need-walked-requires
 walked-requires c κs =
     let f = c .before .before .before .before .before .before in
-    let e = f .before .before .before in (
-      still-usable _ _ (start (e .before) .args .kind) (start (e .before) .args .a) (f .find-held .result) (f .find-held .ensures) (search needs),
-      (whole _ _ _ _ (taken e), known _ _ _ _ (taken e)),
+    let n = f .before .before in
+    let finds = f .find-held .ensures in (
+      still-usable _ _ (n .access-of .result) _ (f .find-held .result) finds (search needs),
+      (
+        whole _ _ _ _ _ (taken (paged n .before)),
+        still-known _ _ (n .access-of .result) _ (f .find-held .result) finds (search needs) (record { access = _; is = n .access-of .ensures }),
+      ),
     )
 
 same-length-5 : tie.Need-same-length-5
@@ -89,7 +99,7 @@ same-length-6 c = search needs
 returns-3 : tie.Need-returns-3
 returns-3 c =
     let f = c .before .before .before .before .before in
-    by-held _ _ _ _ (taken (f .before .before .before)) (on (f .before .before)) _ (f .find-held .result) (f .find-held .ensures) _ _ (search needs)
+    by-held _ _ _ _ _ (taken (paged (f .before .before) .before)) (on (paged (f .before .before))) _ (f .before .before .access-of .ensures) _ (f .find-held .result) (f .find-held .ensures) _ _ (search needs)
 
 same-length-7 : tie.Need-same-length-7
 same-length-7 c = search needs
@@ -101,7 +111,7 @@ returns-4 : tie.Need-returns-4
 returns-4 c =
     let w = c .before .before .before .before in
     let f = w .before .before .before .before .before .before .before in
-    by-walk _ _ _ _ (taken (f .before .before .before)) (on (f .before .before)) _ (f .find-held .result) (f .find-held .ensures) (search needs) _ _ _ (w .walked .ensures)
+    by-walk _ _ _ _ _ (taken (paged (f .before .before) .before)) (on (paged (f .before .before))) _ (f .before .before .access-of .ensures) _ (f .find-held .result) (f .find-held .ensures) (search needs) _ _ _ (w .walked .ensures)
 
 pub translate-spec : {M : Type 1} → statement M
 translate-spec =
@@ -117,6 +127,7 @@ translate-spec =
     same-length-3
     same-length-4
     returns-2
+    access-of-requires
     find-held-requires
     enum-known-value
     enum-told
