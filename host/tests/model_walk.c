@@ -114,8 +114,11 @@ static void count_barred(const struct state *state, struct access access, struct
         event(EVENT_BARRED_WRITE);
     if (access.fetch && !rights.executable)
         event(EVENT_BARRED_FETCH);
-    if (rights.user && kept_off(state, access))
-        event(access.fetch ? EVENT_BARRED_SMEP : access.write && !state->wp ? EVENT_BARRED_SMAP_FALSE_WP : EVENT_BARRED_SMAP);
+    if (rights.user && kept_off(state, access)) {
+        event(access.fetch ? EVENT_BARRED_SMEP : EVENT_BARRED_SMAP);
+        if (access.write && !state->wp)
+            event(EVENT_BARRED_SMAP_FALSE_WP);
+    }
     if (allows(state, access, last))
         event(EVENT_BARRED_ABOVE);
 }
