@@ -1,13 +1,18 @@
 # The commands of the README. `make test` is the gate.
-.PHONY: test demo install bench tools bench-tools c-tests
+.PHONY: test demo replay install bench tools bench-tools c-tests
 .NOTPARALLEL:
 .DELETE_ON_ERROR:
 
 # What the C side builds stands under target/, which `rt ci` removes.
 HOST := target/host
 ARCHIVE := target/staticlib/libpastrulow.a
+REPLAY := target/bin/replay
 
-# The archive is for x86-64. Elsewhere its programs are cross-compiled and run by qemu-user; host/tools.sh sees to both.
+# What replay is run over: the traces that were written by hand, the recorded sequences as one, and random ones, by their seeds.
+TRACES := $(wildcard host/traces/*.trace) $(addprefix $(HOST)/,forms.trace sequences.trace $(patsubst %,random-%.trace,1 2 3 4))
+
+# Archive and programs are for x86-64. Elsewhere what links the archive is cross-compiled, and all is run by qemu-user, which
+# finds the C library of rt's programs where the cross compiler has it; host/tools.sh sees to both.
 ifeq ($(shell uname -m),x86_64)
 C := gcc
 CXX := g++
@@ -15,7 +20,7 @@ RUN :=
 else
 C := x86_64-linux-gnu-gcc
 CXX := x86_64-linux-gnu-g++
-RUN := qemu-x86_64
+RUN := qemu-x86_64 -L /usr/x86_64-linux-gnu
 endif
 WARN := -Wall -Wextra -Werror -pedantic
 CFLAGS := -std=c11 -O2 $(WARN) -Iinclude
@@ -31,7 +36,8 @@ test: c-tests
 	@rt ci
 
 c-tests: tools $(addprefix $(HOST)/,demo demo-c++ demo-installed demo-later header header-bytes trial lengths differential \
-    journal vectors_bochs bochs.txt vectors_sequences sequences.txt vectors_linux linux-guest.bin linux-guest.txt)
+    journal vectors_bochs bochs.txt vectors_sequences sequences.txt vectors_linux linux-guest.bin linux-guest.txt twin) \
+    $(REPLAY) $(TRACES)
 	$(RUN) $(HOST)/demo >$(HOST)/demo.out
 	$(RUN) $(HOST)/demo-c++ >$(HOST)/demo-c++.out
 	cmp $(HOST)/demo.out $(HOST)/demo-c++.out
@@ -48,6 +54,8 @@ c-tests: tools $(addprefix $(HOST)/,demo demo-c++ demo-installed demo-later head
 	$(RUN) $(HOST)/vectors_linux $(HOST)/linux-guest.bin $(HOST)/linux-guest.txt
 	$(RUN) $(HOST)/differential
 	$(RUN) $(HOST)/journal
+	sh host/replay.sh $(HOST) "$(RUN) $(REPLAY)" "$(RUN) $(HOST)/twin" $(TRACES)
+	awk -f $(TEST)/sequences.awk $(HOST)/sequences.txt $(HOST)/sequences.printed
 
 # The example host; then the trial program, which rt proves and runs unless nothing has changed since: the log has what
 # it wrote.
@@ -56,6 +64,10 @@ demo: tools $(HOST)/demo
 	@sh host/prove.sh check trial
 	@cat target/log/trial.stdout
 
+# The program that replays a trace from its standard input, and the words that run it here.
+replay: tools $(REPLAY)
+	@echo "$(RUN) $(REPLAY) <TRACE"
+
 install: $(ARCHIVE)
 	install -d "$(DESTDIR)$(includedir)" "$(DESTDIR)$(libdir)/pkgconfig"
 	install -m 644 include/pastrulow.h "$(DESTDIR)$(includedir)"
@@ -63,10 +75,11 @@ install: $(ARCHIVE)
 	sed -e 's|@PREFIX@|$(PREFIX)|' -e 's|@LIBDIR@|$(libdir)|' -e 's|@INCLUDEDIR@|$(includedir)|' \
 	    -e 's|@VERSION@|$(VERSION)|' host/pastrulow.pc.in >"$(DESTDIR)$(libdir)/pkgconfig/pastrulow.pc"
 
-bench: bench-tools $(addprefix $(HOST)/,bench-archive bench-baseline differential-baseline journal-baseline libcount.so)
+bench: bench-tools $(addprefix $(HOST)/,bench-archive bench-baseline differential-baseline journal-baseline twin-baseline \
+    libcount.so) $(REPLAY)
 	@$(RUN) $(HOST)/differential-baseline 1 0 800
 	@$(RUN) $(HOST)/journal-baseline 1 0 4000
-	@sh bench/run.sh $(HOST)
+	@sh bench/run.sh $(HOST) $(REPLAY)
 
 tools:
 	@sh host/tools.sh
@@ -74,15 +87,22 @@ tools:
 bench-tools:
 	@sh host/tools.sh bench
 
-$(ARCHIVE): crates.txt $(shell find crates -name '*.rt' -o -name '*.antt')
+CRATES := crates.txt $(shell find crates -name '*.rt' -o -name '*.antt')
+
+$(ARCHIVE): $(CRATES)
 	@sh host/prove.sh staticlib pastrulow
+
+$(REPLAY): $(CRATES)
+	@sh host/prove.sh check replay
 
 $(HOST):
 	@mkdir -p $(HOST)
 
 TEST := host/tests
 MODEL := $(addprefix $(TEST)/model_,image.c walk.c buffer.c calls.c translate.c many.c)
-DIFFERENTIAL := $(addprefix $(TEST)/,differential.c call.c lent.c guest.c random.c events.c) $(MODEL)
+DIFFERENTIAL := $(addprefix $(TEST)/,differential.c call.c call_sides.c lent.c guest.c random.c events.c) $(MODEL)
+TWIN := $(addprefix $(TEST)/,twin.c events.c) $(MODEL)
+MAKING := $(addprefix $(TEST)/,traces.c call.c guest.c random.c)
 JOURNAL := $(addprefix $(TEST)/,journal.c journal_history.c journal_made.c model_journal.c model_history.c model_image.c \
     events.c machine.c random.c)
 HEADERS := $(wildcard include/*.h $(TEST)/*.h)
@@ -133,6 +153,26 @@ $(HOST)/differential: $(DIFFERENTIAL) $(HEADERS) $(ARCHIVE) | $(HOST)
 $(HOST)/journal: $(JOURNAL) $(HEADERS) $(ARCHIVE) | $(HOST)
 	$(C) $(CFLAGS) -static -o $@ $(JOURNAL) $(ARCHIVE)
 
+$(HOST)/twin: $(TWIN) $(HEADERS) | $(HOST)
+	$(C) $(CFLAGS) -static -o $@ $(TWIN)
+
+$(HOST)/traces: $(MAKING) $(HEADERS) | $(HOST)
+	$(C) $(CFLAGS) -static -o $@ $(MAKING)
+
+$(HOST)/random-%.trace: $(HOST)/traces
+	$(RUN) $(HOST)/traces $* 30000 >$@
+
+# The trace that the gate runs replay on.
+$(HOST)/forms.trace: crates/replay/stdin $(HOST)/forms.out
+	cp $< $@
+
+$(HOST)/forms.out: crates/replay/stdout | $(HOST)
+	cp $< $@
+
+# Each sequence begins by a start, and stores zeros over what the one before left.
+$(HOST)/sequences.trace: $(HOST)/sequences.txt
+	awk -F '\t=' '!/^#/ { print $$1 }' $< >$@
+
 $(HOST)/%.txt: host/vectors/%.txt.xz | $(HOST)
 	xz -dc $< >$@
 
@@ -150,6 +190,10 @@ $(HOST)/differential-baseline: $(DIFFERENTIAL) $(HEADERS) $(BASELINE)
 
 $(HOST)/journal-baseline: $(JOURNAL) $(HEADERS) $(BASELINE)
 	$(C) $(CFLAGS) -static -o $@ $(JOURNAL) $(BASELINE)
+
+# The twin over the plain C.
+$(HOST)/twin-baseline: $(TEST)/twin.c $(HEADERS) $(BASELINE)
+	$(C) $(CFLAGS) -DCALLS=pastrulow -static -o $@ $(TEST)/twin.c $(BASELINE)
 
 $(HOST)/bench-archive: bench/bench.c include/pastrulow.h $(ARCHIVE) | $(HOST)
 	$(C) $(CFLAGS) -static -o $@ bench/bench.c $(ARCHIVE)

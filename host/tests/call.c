@@ -2,9 +2,7 @@
 
 #include <inttypes.h>
 #include <stdio.h>
-#include <string.h>
 
-#include "model.h"
 #include "pastrulow.h"
 
 static enum call_name random_name(struct random *random)
@@ -144,63 +142,6 @@ struct call call_begin(const struct guest *guest, unsigned step)
     const uint64_t numbers[3] = {guest->width, guest->flags, guest->pcids[1]};
     struct call call = {.name = names[step], .numbers = {numbers[step]}, .image_len = LENT_IMAGE, .answer_len = LENT_ANSWER};
     return call;
-}
-
-void call_lend(const struct call *call, struct lent *lent)
-{
-    if (call->name == TRANSLATE_MANY)
-        memcpy(lent->bytes + lent->pairs, call->pairs, LENT_PAIRS);
-}
-
-uint64_t call_door(const struct call *call, struct lent *lent)
-{
-    uint8_t *image = lent->bytes + lent->image;
-    uint8_t *memory = lent->bytes + lent->memory;
-    uint8_t *answer = lent->bytes + lent->answers;
-    const uint64_t *n = call->numbers;
-    switch (call->name) {
-    case START:
-        return pastrulow_start(image, call->image_len, n[0], answer, call->answer_len);
-    case TRANSLATE:
-        return pastrulow_translate(image, call->image_len, memory, call->memory_len, n[0], n[1], n[2], answer,
-                                   call->answer_len);
-    case TRANSLATE_MANY:
-        return pastrulow_translate_many(image, call->image_len, memory, call->memory_len, lent->bytes + lent->pairs,
-                                        call->pairs_len, answer, call->answer_len);
-    case INVLPG:
-        return pastrulow_invlpg(image, call->image_len, n[0], answer, call->answer_len);
-    case INVPCID:
-        return pastrulow_invpcid(image, call->image_len, n[0], n[1], n[2], answer, call->answer_len);
-    case WRITE_CR3:
-        return pastrulow_write_cr3(image, call->image_len, n[0], answer, call->answer_len);
-    default:
-        return pastrulow_write_mode(image, call->image_len, n[0], answer, call->answer_len);
-    }
-}
-
-uint64_t call_model(const struct call *call, struct lent *lent)
-{
-    uint8_t *image = lent->bytes + lent->image;
-    uint8_t *memory = lent->bytes + lent->memory;
-    uint8_t *answer = lent->bytes + lent->answers;
-    const uint64_t *n = call->numbers;
-    switch (call->name) {
-    case START:
-        return model_start(image, call->image_len, n[0], answer, call->answer_len);
-    case TRANSLATE:
-        return model_translate(image, call->image_len, memory, call->memory_len, n[0], n[1], n[2], answer, call->answer_len);
-    case TRANSLATE_MANY:
-        return model_translate_many(image, call->image_len, memory, call->memory_len, lent->bytes + lent->pairs,
-                                    call->pairs_len, answer, call->answer_len);
-    case INVLPG:
-        return model_invlpg(image, call->image_len, n[0], answer, call->answer_len);
-    case INVPCID:
-        return model_invpcid(image, call->image_len, n[0], n[1], n[2], answer, call->answer_len);
-    case WRITE_CR3:
-        return model_write_cr3(image, call->image_len, n[0], answer, call->answer_len);
-    default:
-        return model_write_mode(image, call->image_len, n[0], answer, call->answer_len);
-    }
 }
 
 size_t call_pairs(const struct call *call)

@@ -1,0 +1,6 @@
+pub mod Doing
+pub mod Answering
+pub mod Keeping
+pub mod Turning
+pub mod Feeding
+pub mod Finishing

@@ -1,0 +1,9 @@
+pub mod Text
+pub mod Numbers
+pub mod Orders
+pub mod Does
+pub mod Printed
+pub mod Totals
+pub mod Trace
+pub mod Pieces
+pub mod Claims
