@@ -63,14 +63,15 @@ trim-whole m x l h =
     let v : 1 ≤ x / 16 ^ m = le-div-iff-mul-le {k = 16 ^ m} {x = 1} {y = x} p .1 (omega arith) in
     trim-kept (x / 16 ^ m % 16) (digits m x) (rw (mod-eq-of-lt u) v)
 
+-- below 16 there is one, the number itself
+pub trim-one : (x : ℕ) → x < 16 → trimmed (digits 16 x) ≡ x ∷ []
+unfolding digits trimmed
+trim-one x h = trim-more 15 0 x h ∙ rw (div-one x, mod-eq-of-lt h)
+
 -- ---- how many
 sixteens : (m : ℕ) → 16 ^ m ≡ 2 ^ (m * 4)
 sixteens zero = refl
 sixteens (suc m) = let e : suc m * 4 ≡ m * 4 + 4 = omega arith in rw (e, pow-add 2 (m * 4) 4, ← sixteens m) (pow-suc 16 m)
-
-pub count-zero : (x : ℕ) → x ≡ 0 → Counts x 1
-unfolding digits trimmed
-count-zero x e = rw e (record { few = omega arith; same = refl })
 
 counted : (m x : ℕ) → m ≤ 15 → 16 ^ m ≤ x → x < 16 ^ suc m → Counts x (suc m)
 counted m x f l h =
@@ -78,9 +79,9 @@ counted m x f l h =
     record { few = omega arith; same = rw e at (trim-more (15 - m) m x h) ∙ trim-whole m x l h }
 
 -- the highest bit is bit j, and its digit is digit j / 4
-pub count-found : (x : ℕ) → (x ≡ 0 → ⊥) → x < 2 ^ 64 → Counts x ((67 - leadingZeros 64 x) / 4)
+pub count-found : (x : ℕ) → 0 < x → x < 2 ^ 64 → Counts x ((67 - leadingZeros 64 x) / 4)
 count-found x h g =
-    let t = leading-top 64 x (omega arith) g in
+    let t = leading-top 64 x h g in
     let j : ℕ = t .0 in
     let s : leadingZeros 64 x + suc j ≡ 64 = t .1 in
     let e : (67 - leadingZeros 64 x) / 4 ≡ suc (j / 4) = omega arith in

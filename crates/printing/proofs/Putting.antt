@@ -1,10 +1,10 @@
 -- What stands in the room after one part and the next: a word's store, a byte more, and the fields of a line.
 use Prim.Native.Nat.{ℕ, zero, suc, _+_, _≤_, _<_}
 use mathlib.Core.Path.{_≡_, refl, sym, ap, _∙_}
-use mathlib.Core.List.{List, [], _∷_, _++_, map, append-assoc}
+use mathlib.Core.List.{List, [], _∷_, _++_, map, append-assoc, append-nil}
 use native.Mathlib.Omega.{arith}
 use native.Mathlib.Numerals.{add-one}
-use lib.ListN.{length, take, drop, set, length-append, length-take}
+use lib.ListN.{length, take, drop, set, length-append, length-set, length-take}
 use lib.Seq.{length-take-le, take-append-add, take-append-le, take-suc-set, append-snoc}
 use Rattle.rules.specs.Bits.{bytesOf, wordPut}
 use Rattle.trace.specs.Text.{tab}
@@ -12,6 +12,7 @@ use Rattle.trace.specs.Numbers.{digits, byteOf, hexOf}
 use Rattle.trace.specs.Printed.{joined, wordFor}
 use Rattle.printing.specs.Puts.{Puts}
 use Rattle.printing.specs.Parts.{Counts, Holds}
+use Rattle.printing.proofs.Digits.{trim-one}
 
 -- ---- one part and the next
 pub puts-more : (o p q : List ℕ) (at r s : ℕ) (xs ys : List ℕ) → Puts o p at xs r → Puts p q r ys s → Puts o q at (xs ++ ys) s
@@ -34,6 +35,15 @@ byte-puts o p at r b xs a h =
 pub hex-puts : (o p : List ℕ) (at n x b : ℕ) → Counts x n → Puts o p at (map byteOf (digits n x)) (at + n) → at + 17 ≤ length o
     → length p ≡ length o → Puts o (set p (at + n) b) at (hexOf x ++ (b ∷ [])) (at + n + 1)
 hex-puts o p at n x b c a h l = rw (c .same) (byte-puts o p at (at + n) b (map byteOf (digits n x)) a (omega (arith, c .few)))
+
+-- a number of one digit
+pub digit-puts : (o : List ℕ) (at x d b : ℕ) → x < 16 → d ≡ byteOf x → at + 17 ≤ length o
+    → Puts o (set (set o at d) (at + 1) b) at (hexOf x ++ (b ∷ [])) (at + 2)
+digit-puts o at x d b s e h =
+    let none : Puts o o at [] at = record { place = omega arith; text = rw append-nil } in
+    let two : at + 1 + 1 ≡ at + 2 = omega arith in
+    rw (trim-one x s, ← e, ← two)
+    (byte-puts o (set o at d) at (at + 1) b (d ∷ []) (byte-puts o o at at d [] none (omega arith)) (simp length-set (omega arith)))
 
 -- ---- a text of which eight bytes are stored
 pub text-puts : (o p : List ℕ) (at x n : ℕ) (bytes : List ℕ) → Holds bytes x n → at + 8 ≤ length o → p ≡ wordPut o at x → Puts o p at bytes (at + n)

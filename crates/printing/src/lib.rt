@@ -28,13 +28,11 @@ fn byte(d: u64) -> u64
     48 + d + (d + 6) / 16 * 39
 }
 
-// How many digits a number has: 0 has one, any other one for each four bits up to the highest that is set.
+// How many digits a number has that is not 0: one for each four bits up to the highest that is set.
 fn count(x: u64) -> usize
+    requires { ⌜ 0 < x ⌝ }
     ensures { λ r. ⌜ Counts x r ⌝ }
 {
-    if x == 0 {
-        return 1;
-    }
     (67 - u64::leading_zeros(x)) as usize / 4
 }
 
@@ -52,11 +50,16 @@ fn put_digits(out: &mut [u8], at: usize, n: usize, x: u64)
     }
 }
 
-// A number without leading zeros, and the byte after it.
+// A number without leading zeros, and the byte after it. One digit is written at once, since most numbers of a line have one.
 fn put_hex(out: &mut [u8], at: usize, x: u64, end: u8) -> usize
     requires { ⌜ at + 17 ≤ length (now out) ⌝ }
     ensures { λ r. ⌜ Puts (now (out .entry)) (now (out .exit)) at (hexOf x ++ (end ∷ [])) r × (r ≤ at + 17) ⌝ }
 {
+    if x < 16 {
+        out[at] = byte(x) as u8;
+        out[at + 1] = end;
+        return at + 2;
+    }
     let n = count(x);
     put_digits(out, at, n, x);
     out[at + n] = end;

@@ -1,5 +1,5 @@
 -- What a line asks for, field by field: one law a way out of `order`.
-use Prim.Native.Nat.{ℕ, _≤_, _<_}
+use Prim.Native.Nat.{ℕ, suc, _≤_, _<_}
 use mathlib.Core.Path.{_≡_, refl, sym, _∙_, ap, ap₂}
 use mathlib.Core.Bool.{Bool, true, false, cond}
 use mathlib.Core.List.{List, [], _∷_, map}
@@ -19,7 +19,7 @@ use Rattle.trace.specs.declared.Order.the-variants.{Bad}
 use Rattle.reading.specs.declared.Found.{Found}
 use Rattle.reading.specs.declared.Found.the-variants.{Number as Finds, Bad as NotFound}
 use Rattle.reading.specs.Fields.{width, partAt, nextAt, found, fieldAt}
-use Rattle.reading.proofs.Parts.{parted-last, parts-more, rest-width}
+use Rattle.reading.proofs.Parts.{parts-more, rest-width}
 
 -- ---- the letter
 pub line-short : (line : List ℕ) → length line < 2 → Bad ≡ orderOf line
@@ -71,9 +71,14 @@ lettered (b ∷ d ∷ bs) h e = rw (eq-eqb d tab e) (by (eqb b tab) (eqb-true b 
 
 -- ---- one field more
 fields-last : (t : List ℕ) → width tab t ≡ length t → fieldsOf t ≡ t ∷ []
-unfolding parted
+unfolding width parted
 fields-last [] h = refl
-fields-last (b ∷ bs) h = parted-last tab ([] ∷ []) (λ c. refl) (b ∷ bs) (omega arith) h
+fields-last (b ∷ bs) h = step (eqb b tab) h (fields-last bs)
+  where
+    step : (q : Bool) → cond q 0 (suc (width tab bs)) ≡ suc (length bs) → (width tab bs ≡ length bs → fieldsOf bs ≡ bs ∷ [])
+        → cond q ([] ∷ fieldsOf bs) (onto b (fieldsOf bs)) ≡ (b ∷ bs) ∷ []
+    step true g f = absurd (omega arith)
+    step false g f = ap (onto b) (f (omega arith))
 
 found-number : (m : Number) (k x next : ℕ) → found m k ≡ Finds x next → (m ≡ Of x) × (k ≡ next)
 found-number (Of n) k x next h = (cc, cc)

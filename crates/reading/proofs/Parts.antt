@@ -1,13 +1,13 @@
 -- A text's parts between separators: the first is what stands before the first separator, and then come the parts of what stands after it.
 use Prim.Native.Nat.{ℕ, suc, _+_, _≤_, _<_}
-use mathlib.Core.Path.{_≡_, refl, ap}
+use mathlib.Core.Path.{_≡_, refl}
 use mathlib.Core.Bool.{Bool, true, false, cond}
 use mathlib.Core.List.{List, [], _∷_}
 use native.Mathlib.Omega.{arith}
 use lib.Dec.{eqb}
 use lib.ListN.{length, getD, take, drop, length-drop}
-use lib.Seq.{drop-cons, take-length, drop-drop}
-use borrow.Author.Tests.{eq-eqb, ne-eqb}
+use lib.Seq.{drop-cons, drop-drop}
+use borrow.Author.Tests.{eqb-true, eq-eqb, ne-eqb}
 use Rattle.trace.specs.Text.{onto, parted}
 use Rattle.reading.specs.Fields.{width, partAt, nextAt}
 
@@ -36,23 +36,17 @@ module _ (s : ℕ) where
       step true l f = refl
       step false l f = rw (f (omega arith))
 
-  -- up to the end: the text itself, be nothing after the last no part or an empty one
-  module _ (e : List (List ℕ)) (k : (b : ℕ) → onto b e ≡ (b ∷ []) ∷ []) where
-    pub parted-last : (t : List ℕ) → 0 < length t → width s t ≡ length t → parted s e t ≡ t ∷ []
-    unfolding width parted
-    parted-last [] l h = absurd (omega arith)
-    parted-last (b ∷ []) l h = step (eqb b s) h
-      where
-        step : (q : Bool) → cond q 0 (suc 0) ≡ length (b ∷ []) → cond q ([] ∷ e) (onto b e) ≡ (b ∷ []) ∷ []
-        step true g = absurd (omega arith)
-        step false g = k b
-    parted-last (b ∷ c ∷ cs) l h = step (eqb b s) h (parted-last (c ∷ cs) (omega arith))
-      where
-        step : (q : Bool) → cond q 0 (suc (width s (c ∷ cs))) ≡ suc (suc (length cs))
-            → (width s (c ∷ cs) ≡ suc (length cs) → parted s e (c ∷ cs) ≡ (c ∷ cs) ∷ [])
-            → cond q ([] ∷ parted s e (c ∷ cs)) (onto b (parted s e (c ∷ cs))) ≡ (b ∷ c ∷ cs) ∷ []
-        step true g f = absurd (omega arith)
-        step false g f = ap (onto b) (f (omega arith))
+  -- and there the separator stands
+  pub separator-at : (t : List ℕ) → width s t < length t → drop (width s t) t ≡ s ∷ drop (suc (width s t)) t
+  unfolding width
+  separator-at [] h = absurd (omega arith)
+  separator-at (b ∷ bs) h = step (eqb b s) (eqb-true b s) h (separator-at bs)
+    where
+      step : (q : Bool) → (q ≡ true → b ≡ s) → cond q 0 (suc (width s bs)) < suc (length bs)
+          → (width s bs < length bs → drop (width s bs) bs ≡ s ∷ drop (suc (width s bs)) bs)
+          → drop (cond q 0 (suc (width s bs))) (b ∷ bs) ≡ s ∷ drop (cond q 0 (suc (width s bs))) bs
+      step true e l f = rw (e refl)
+      step false e l f = f (omega arith)
 
 -- ---- the same by index
 module _ (s : ℕ) (t : List ℕ) (i : ℕ) (h : i < length t) where
@@ -79,10 +73,3 @@ module _ (s : ℕ) (t : List ℕ) (from : ℕ) where
         let l : width s (drop from t) < length (drop from t) = simp length-drop (omega arith) in
         let n : from + suc (width s (drop from t)) ≡ nextAt s t from = omega arith in
         rw (parted-more s e (drop from t) l, drop-drop, n)
-
-    pub parts-last : ((b : ℕ) → onto b e ≡ (b ∷ []) ∷ []) → from < length t → length t < nextAt s t from
-        → parted s e (drop from t) ≡ partAt s t from ∷ []
-    parts-last k h g =
-        let w = rest-width (omega arith) g in
-        let l : 0 < length (drop from t) = simp length-drop (omega arith) in
-        rw (w, take-length) (parted-last s e k (drop from t) l w)

@@ -20,9 +20,13 @@ width s (b ∷ bs) = cond (eqb b s) 0 (suc (width s bs))
 abbrev pub partAt : ℕ → List ℕ → ℕ → List ℕ
 partAt s t from = take (width s (drop from t)) (drop from t)
 
+-- where it ends: at its separator, or at the text's end
+abbrev pub endAt : ℕ → List ℕ → ℕ → ℕ
+endAt s t from = from + width s (drop from t)
+
 -- where the next one starts: after the separator, or past the end by one
 abbrev pub nextAt : ℕ → List ℕ → ℕ → ℕ
-nextAt s t from = from + width s (drop from t) + 1
+nextAt s t from = endAt s t from + 1
 
 -- ---- fields
 abbrev pub found : Number → ℕ → Found

@@ -1,18 +1,35 @@
-// Lines of a trace, read: a letter and one to three numbers in hex digits. Each byte is looked at once.
+// Lines of a trace, read: where one ends, and what it asks for, a letter and one to three numbers in hex digits.
 ghost use mathlib.Core.Path.{_≡_};
 ghost use Prim.Native.Nat.{_≤_};
 ghost use lib.ListN.{length};
+ghost use Rattle.trace.specs.Text.{feed};
 ghost use Rattle.trace.specs.Numbers.{digitOf};
 ghost use Rattle.trace.specs.Orders.{withOne, withTwo, withThree, orderOf};
-ghost use Rattle.reading.specs.Fields.{ended as endedOf, fieldAt};
+ghost use Rattle.reading.specs.Fields.{endAt, ended as endedOf, fieldAt};
 use trace::Order;
 
 const TAB: u8 = 9;
+
+const FEED: u8 = 10;
 
 // A field's number, and where the next field starts: after the tab, or past the line's end by one.
 enum Found {
     Number { value: u64, next: usize },
     Bad,
+}
+
+// Where the line ends that starts at an index: at its line feed, or at the text's end.
+pub fn line_end(text: &[u8], from: usize) -> usize
+    ensures { λ r. ⌜ r ≡ endAt feed (now (text .entry)) from ⌝ }
+{
+    let mut i = from;
+    while i < text.len() {
+        if text[i] == FEED {
+            return i;
+        }
+        i += 1;
+    }
+    i
 }
 
 // The value of a hex digit; 16 for any other byte.

@@ -48,7 +48,7 @@ fn feed_piece(
 }
 
 // The last line, if it lacks its end, and the totals.
-fn finish(run: Run, image: &mut [u8; 2048], mem: &mut [u8; 65536], kept: &[u8; 53]) {
+fn finish(run: Run, image: &mut [u8; 2048], mem: &mut [u8; 65536], kept: &mut [u8; 53]) {
     let mut out = [0u8; 160];
     let n = run::finish(run, image, mem, kept, &mut out);
     io::write_all(1, &out[..n]);
@@ -74,5 +74,5 @@ fn main() {
         }
         pieces -= 1;
     }
-    finish(run, &mut image, &mut mem, &kept);
+    finish(run, &mut image, &mut mem, &mut kept);
 }

@@ -1,82 +1,103 @@
--- Bytes of a line are kept one by one: each is taken without anything printed, and adds to the line's start, of which no more than enough is kept.
-use Prim.Native.Nat.{ℕ, suc, _+_, _-_, _≤_, _<_}
+-- A line's text, of which the start is kept: bytes are put behind it one by one while there is room, and what is kept then says what the whole line asks for.
+use Prim.Native.Nat.{ℕ, zero, suc, _+_, _-_, _≤_, _<_}
 use mathlib.Core.Path.{_≡_, refl, ap, sym, _∙_}
-use mathlib.Core.Bool.{false}
-use mathlib.Core.List.{List, [], _∷_, _++_}
+use mathlib.Core.Bool.{Bool, true, false, true≢false, _&&_}
+use mathlib.Core.List.{List, [], _∷_, _++_, append-nil, append-assoc}
 use native.Mathlib.Omega.{arith}
-use native.Mathlib.Nat.{add-zero, sub-zero, sub-self}
 use native.Mathlib.Numerals.{add-one}
-use lib.Dec.{eqb}
-use lib.ListN.{length, getD, take, drop, set, length-append}
-use lib.Seq.{drop-cons, take-all, take-suc-set, take-append-le, length-take-le}
-use borrow.Author.Tests.{ne-eqb}
-use Rattle.rules.proofs.BoolLaws.{or-right}
-use Rattle.trace.specs.Text.{feed}
-use Rattle.trace.specs.Pieces.{Run, enough, Taken, isFull, isOver, taking}
-use Rattle.runs.specs.Feeding.{ahead, withText, Adds, Keeps}
+use lib.Dec.{eqb, ltb}
+use lib.ListN.{length, getD, take, set, length-append, length-set}
+use lib.Seq.{length-take-le, take-all, take-suc, take-suc-set, take-append-add}
+use borrow.Author.Tests.{ltb-true, ltb-false, eq-eqb, ne-eqb}
+use Rattle.rules.proofs.BoolLaws.{and-left, and-right}
+use Rattle.trace.specs.Orders.{orderOf}
+use Rattle.trace.specs.Pieces.{enough}
+use Rattle.trace.proofs.LineLaws.{enough-says}
+use Rattle.runs.specs.Feeding.{Keeps, Gathers, textOf}
 
--- ---- one byte more, which is no line's end
-one-more : (left : ℕ) (r : Run) (b : ℕ) (bs : List ℕ) → isFull left r ≡ false → (b ≡ feed → ⊥)
-    → taking left r (b ∷ bs) ≡ ahead [] 1 (taking left (withText (take enough (r .text ++ (b ∷ []))) r) bs)
-unfolding taking
-one-more left r b bs h e = rw (h, or-right _ (isOver r) h, ne-eqb b feed e, sub-zero left, add-one)
-
--- ---- what of a line is kept
-pub adds : (kept : List ℕ) (n b : ℕ) → length kept ≡ 53 → n < 53 → Adds kept n b (set kept n b) (n + 1)
-adds kept n b long h =
-    let l : length (take n kept) ≡ n = length-take-le n kept (omega arith) in
-    let all : length (take n kept ++ (b ∷ [])) ≤ enough = rw (length-append (take n kept) (b ∷ []), l) (omega arith) in
-    record { few = omega arith; text = rw (add-one n) (take-suc-set kept n b (omega arith) ∙ sym (take-all enough (take n kept ++ (b ∷ [])) all)) }
-
-pub adds-none : (kept : List ℕ) (n b : ℕ) → length kept ≡ 53 → n ≤ 53 → 53 ≤ n → Adds kept n b kept n
-adds-none kept n b long few h =
-    let l : length (take n kept) ≡ n = length-take-le n kept (omega arith) in
-    record { few = few; text = sym (take-append-le enough (take n kept) (b ∷ []) (omega arith) ∙ take-all enough (take n kept) (omega arith)) }
-
--- ---- the loop: bytes up to i are kept
-pub record Keeping (kept₀ : List ℕ) (count : ℕ) (piece : List ℕ) (from : ℕ) (kept : List ℕ) (n i : ℕ) : Type 0 where
+-- ---- the loop: i bytes are kept behind those that were
+pub record Keeping (kept₀ : List ℕ) (count : ℕ) (part kept : List ℕ) (n i : ℕ) : Type 0 where
   pub long : length kept ≡ enough
+  pub place : n ≡ count + i
   pub few : n ≤ enough
-  pub low : from ≤ i
-  pub high : i ≤ length piece
-  pub takes : (left : ℕ) (r : Run) → isFull left r ≡ false → r .text ≡ take count kept₀
-      → taking left r (drop from piece) ≡ ahead [] (i - from) (taking left (withText (take n kept) r) (drop i piece))
+  pub high : i ≤ length part
+  pub text : take n kept ≡ take count kept₀ ++ take i part
 
-pub keeping-none : (kept : List ℕ) (count : ℕ) (piece : List ℕ) (from : ℕ) → length kept ≡ 53 → count ≤ 53 → from ≤ length piece
-    → Keeping kept count piece from kept count from
-keeping-none kept count piece from long few high =
-    record {
-      long = long;
-      few = few;
-      low = omega arith;
-      high = high;
-      takes = λ left r h e. rw (sub-self from, ← e, add-zero);
-    }
+pub keeping-none : (kept : List ℕ) (count : ℕ) (part : List ℕ) → length kept ≡ 53 → count ≤ 53 → Keeping kept count part kept count 0
+keeping-none kept count part long few =
+    record { long = long; place = omega arith; few = few; high = omega arith; text = sym (append-nil (take count kept)) }
 
--- two runs of bytes, one after the other
-in-turn : (m n : ℕ) (t : Taken) → ahead [] m (ahead [] n t) ≡ ahead [] (m + n) t
-in-turn m n t = ap (λ (k : ℕ). record { step = t .step; taken = k }) (omega arith)
+module _ (kept₀ : List ℕ) (count : ℕ) (part kept : List ℕ) (n i : ℕ) (k : Keeping kept₀ count part kept n i) where
+  pub has-room : (ltb n 53 && ltb i (length part)) ≡ true → n < length kept
+  has-room t = omega (arith, k .long, ltb-true n 53 (and-left (ltb n 53) (ltb i (length part)) t))
 
-module _ (kept₀ : List ℕ) (count : ℕ) (piece : List ℕ) (from : ℕ) (kept : List ℕ) (n i : ℕ) (k : Keeping kept₀ count piece from kept n i) where
-  pub keeping-more : (b : ℕ) (kept′ : List ℕ) (n′ : ℕ) → i < length piece → b ≡ getD piece i 0 → (b ≡ 10 → ⊥) → length kept′ ≡ length kept → Adds kept n b kept′ n′
-      → Keeping kept₀ count piece from kept′ n′ (i + 1)
-  keeping-more b kept′ n′ h e f long a =
-      let count : i - from + 1 ≡ i + 1 - from = omega (arith, k .low) in
+  pub has-byte : (ltb n 53 && ltb i (length part)) ≡ true → i < length part
+  has-byte t = ltb-true i (length part) (and-right (ltb n 53) (ltb i (length part)) t)
+
+  pub keeping-more : (ltb n 53 && ltb i (length part)) ≡ true → Keeping kept₀ count part (set kept n (getD part i 0)) (n + 1) (i + 1)
+  keeping-more t =
+      let h = has-room t in
+      let g = has-byte t in
       record {
-        long = long ∙ k .long;
-        few = a .few;
-        low = omega (arith, k .low);
+        long = length-set kept n (getD part i 0) ∙ k .long;
+        place = omega (arith, k .place);
+        few = omega (arith, k .long);
         high = omega arith;
-        takes = λ left r g t.
-            k .takes left r g t
-            ∙ ap (λ (l : List ℕ). ahead [] (i - from) (taking left (withText (take n kept) r) l)) (drop-cons piece i 0 h ∙ ap (λ (x : ℕ). x ∷ drop (suc i) piece) (sym e))
-            ∙ ap (ahead [] (i - from)) (one-more left (withText (take n kept) r) b (drop (suc i) piece) g f)
-            ∙ in-turn (i - from) 1 (taking left (withText (take enough (take n kept ++ (b ∷ []))) r) (drop (suc i) piece))
-            ∙ rw (count, ← a .text, add-one i);
+        text =
+            rw (add-one n, add-one i)
+            (take-suc-set kept n (getD part i 0) h
+            ∙ ap (λ (l : List ℕ). l ++ (getD part i 0 ∷ [])) (k .text)
+            ∙ append-assoc (take count kept₀) (take i part) (getD part i 0 ∷ [])
+            ∙ ap (λ (l : List ℕ). take count kept₀ ++ l) (sym (take-suc part i 0 g)));
       }
 
-  pub kept-line : i < length piece → getD piece i 0 ≡ 10 → Keeps kept₀ count piece from kept n i
-  kept-line h e = record { few = k .few; low = k .low; high = k .high; stop = λ g. e; takes = k .takes }
+  pub goes-on : (ltb n 53 && ltb i (length part)) ≡ true → length part - (i + 1) < length part - i
+  goes-on t = omega (arith, has-byte t)
 
-  pub kept-piece : length piece ≤ i → Keeps kept₀ count piece from kept n i
-  kept-piece h = record { few = k .few; low = k .low; high = k .high; stop = λ g. absurd (omega arith); takes = k .takes }
+  -- all that is kept with all bytes of the part, cut where the room ends
+  pub kept-all : (ltb n 53 && ltb i (length part)) ≡ false → length kept₀ ≡ 53 → Keeps kept₀ count part kept n
+  kept-all t long =
+      record { low = omega (arith, k .place); few = k .few; text = k .text ∙ sym (go (ltb n 53) (ltb i (length part)) refl refl t) }
+    where
+      front : length (take count kept₀) ≡ count
+      front = length-take-le count kept₀ (omega (arith, k .place, k .few))
+
+      whole : length part ≤ i → take enough (take count kept₀ ++ part) ≡ take count kept₀ ++ take i part
+      whole h =
+          let l : length (take count kept₀ ++ part) ≤ enough = rw (length-append (take count kept₀) part, front) (omega (arith, k .place, k .few, k .high)) in
+          take-all enough (take count kept₀ ++ part) l ∙ ap (λ (p : List ℕ). take count kept₀ ++ p) (sym (take-all i part h))
+
+      cut : 53 ≤ n → take enough (take count kept₀ ++ part) ≡ take count kept₀ ++ take i part
+      cut h =
+          let e : enough ≡ length (take count kept₀) + i = omega (arith, k .place, k .few, front) in
+          rw e (take-append-add (take count kept₀) part i)
+
+      go : (x y : Bool) → ltb n 53 ≡ x → ltb i (length part) ≡ y → (x && y) ≡ false → take enough (take count kept₀ ++ part) ≡ take count kept₀ ++ take i part
+      go false y p q e = cut (ltb-false n 53 p)
+      go true false p q e = whole (ltb-false i (length part) q)
+      go true true p q e = absurd (true≢false e)
+
+-- ---- the text of a line that ends
+pub gathers-none : (kept : List ℕ) (count : ℕ) (part : List ℕ) → count ≡ 0 → Gathers kept count part kept 0
+gathers-none kept count part e = record { none = λ h. refl; some = λ h. absurd (omega arith) }
+
+pub gathers-some : (kept : List ℕ) (count : ℕ) (part kept′ : List ℕ) (n : ℕ) → (count ≡ 0 → ⊥) → Keeps kept count part kept′ n → Gathers kept count part kept′ n
+gathers-some kept count part kept′ n o k = record { none = λ h. absurd (o h); some = λ h. k }
+
+pub gathers-few : (kept : List ℕ) (count : ℕ) (part kept′ : List ℕ) (n : ℕ) → Gathers kept count part kept′ n → n ≤ 53
+gathers-few kept zero part kept′ n g = omega (arith, g .none refl)
+gathers-few kept (suc count) part kept′ n g = g .some (omega arith) .few
+
+pub text-part : (kept : List ℕ) (n : ℕ) (part : List ℕ) → n ≡ 0 → part ≡ textOf kept n part
+text-part kept n part e = rw (eq-eqb n 0 e)
+
+pub text-kept : (kept : List ℕ) (n : ℕ) (part : List ℕ) → (n ≡ 0 → ⊥) → take n kept ≡ textOf kept n part
+text-kept kept n part o = rw (ne-eqb n 0 o)
+
+-- it asks for what the whole line does
+pub text-asks : (kept : List ℕ) (count : ℕ) (part kept′ : List ℕ) (n : ℕ) → Gathers kept count part kept′ n
+    → orderOf (textOf kept′ n part) ≡ orderOf (take enough (take count kept ++ part))
+text-asks kept zero part kept′ n g = rw (eq-eqb n 0 (g .none refl)) (sym (enough-says part))
+text-asks kept (suc count) part kept′ n g =
+    let k = g .some (omega arith) in
+    rw (ne-eqb n 0 (λ e. absurd (omega (arith, k .low)))) (ap orderOf (k .text))

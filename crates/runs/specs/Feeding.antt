@@ -1,15 +1,14 @@
 -- A piece of the input as code takes it: the bytes of a line at a time.
 use Prim.Native.Nat.{ℕ, _+_, _-_, _≤_, _<_}
 use mathlib.Core.Path.{_≡_}
-use mathlib.Core.Bool.{Bool, false, _&&_}
-use mathlib.Core.List.{List, [], _∷_, _++_}
+use mathlib.Core.Bool.{Bool, cond, _&&_}
+use mathlib.Core.List.{List, _++_}
 use lib.Dec.{eqb, leb, ltb}
-use lib.ListN.{length, getD, take, drop}
-use Rattle.trace.specs.Text.{feed}
+use lib.ListN.{length, take, drop}
 use Rattle.rules.specs.Memory.{Memory}
 use Rattle.trace.specs.Totals.{noTotals}
 use Rattle.trace.specs.Trace.{most}
-use Rattle.trace.specs.Pieces.{Run, after, enough, ends, lastLine, finished, room, Taken, isFull, taking}
+use Rattle.trace.specs.Pieces.{Run, after, enough, ends, lastLine, finished, room, Taken, taking}
 use Rattle.printing.specs.Puts.{Puts}
 use Rattle.runs.specs.declared.run.Run.{Run as RunOf}
 use Rattle.runs.specs.declared.run.Ended.{Ended}
@@ -19,37 +18,37 @@ use Rattle.runs.specs.declared.run.Fed.{Fed}
 abbrev pub ahead : List ℕ → ℕ → Taken → Taken
 ahead o n t = record { step = after o (t .step); taken = t .taken + n }
 
--- a run with another start of a line
-abbrev pub withText : List ℕ → Run → Run
-withText t r = record { text = t; lines = r .lines; totals = r .totals; image = r .image; memory = r .memory }
-
--- a byte more of a line, of which n bytes are kept
-pub record Adds (kept : List ℕ) (n b : ℕ) (kept′ : List ℕ) (n′ : ℕ) : Type 0 where
-  pub few : n′ ≤ enough
-  pub text : take n′ kept′ ≡ take enough (take n kept ++ (b ∷ []))
-
--- bytes up to the line's end, or the piece's, are kept: whatever run they are taken for, what is left to take is what follows them
-pub record Keeps (kept : List ℕ) (count : ℕ) (piece : List ℕ) (from : ℕ) (kept′ : List ℕ) (n at : ℕ) : Type 0 where
+-- ---- a line's text, of which the start is kept
+-- so many bytes are kept with these behind them as there is room for
+pub record Keeps (kept : List ℕ) (count : ℕ) (part kept′ : List ℕ) (n : ℕ) : Type 0 where
+  pub low : count ≤ n
   pub few : n ≤ enough
-  pub low : from ≤ at
-  pub high : at ≤ length piece
-  pub stop : at < length piece → getD piece at 0 ≡ feed
-  pub takes : (left : ℕ) (r : Run) → isFull left r ≡ false → r .text ≡ take count kept
-      → taking left r (drop from piece) ≡ ahead [] (at - from) (taking left (withText (take n kept′) r) (drop at piece))
+  pub text : take n kept′ ≡ take enough (take count kept ++ part)
+
+-- where none are kept, none are
+pub record Gathers (kept : List ℕ) (count : ℕ) (part kept′ : List ℕ) (n : ℕ) : Type 0 where
+  pub none : count ≡ 0 → n ≡ 0
+  pub some : 0 < count → Keeps kept count part kept′ n
+
+abbrev pub textOf : List ℕ → ℕ → List ℕ → List ℕ
+textOf kept n part = cond (eqb n 0) part (take n kept)
 
 -- ---- a run as code has it: lent bytes and numbers
+abbrev pub runWith : RunOf → List ℕ → List ℕ → Memory → Run
+runWith r text b mem = record { text = text; lines = r .lines; totals = r .totals; image = b; memory = mem }
+
 abbrev pub runOf : RunOf → List ℕ → List ℕ → Memory → Run
-runOf r kept b mem = record { text = take (r .kept) kept; lines = r .lines; totals = r .totals; image = b; memory = mem }
+runOf r kept = runWith r (take (r .kept) kept)
 
 -- before the first line
 abbrev pub begins : RunOf
 begins = record { kept = 0; lines = 0; totals = noTotals }
 
--- the line that is kept ends: its answer is printed from a place on, and the run goes on after it
-pub record Ends (r : RunOf) (b b′ : List ℕ) (mem mem′ : Memory) (kept out out′ : List ℕ) (at : ℕ) (e : Ended) : Type 0 where
-  pub puts : Puts out out′ at (ends (runOf r kept b mem) .out) (e .written)
+-- a line of this text ends: its answer is printed from a place on, and the run goes on after it
+pub record Ends (r : RunOf) (b b′ : List ℕ) (mem mem′ : Memory) (text out out′ : List ℕ) (at : ℕ) (e : Ended) : Type 0 where
+  pub puts : Puts out out′ at (ends (runWith r text b mem) .out) (e .written)
   pub fresh : e .run .kept ≡ 0
-  pub run : (kept′ : List ℕ) → runOf (e .run) kept′ b′ mem′ ≡ ends (runOf r kept b mem) .run
+  pub run : (kept′ : List ℕ) → runOf (e .run) kept′ b′ mem′ ≡ ends (runWith r text b mem) .run
 
 -- ---- a turn: the bytes of a piece up to a line's end, or its own
 pub record Ready (f : Fed) (kept piece out : List ℕ) : Type 0 where

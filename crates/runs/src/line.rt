@@ -1,11 +1,13 @@
 // One line of a trace: what it asks for is done, and its answer is printed.
-ghost use Prim.Native.Nat.{_+_, _≤_};
 ghost use mathlib.Core.Path.{_≡_};
 ghost use lib.ListN.{length};
-ghost use Rattle.trace.specs.Does.{does, isPlace, lineDoes};
+ghost use Rattle.trace.specs.Does.{does, isPlace};
 ghost use Rattle.runs.specs.Line.{Gives, Stores, Lines};
 use trace::Order;
 use translator::calls;
+
+// A line is done only where there is this much room, which is more than any has that is printed.
+pub const ROOM: usize = 80;
 
 // The kinds of answer of a store, and of a bad line, which no call gives.
 const DONE: u64 = 3;
@@ -68,23 +70,25 @@ fn perform(order: Order, image: &mut [u8], mem: &mut [u8], answer: &mut [u8])
     }
 }
 
-// A line's text is read, what it asks for is done and answered in a record, and its line is printed from a place on; returns the place after it.
+// A line: its text is read, what it asks for is done and answered in a record, and what is printed of it stands at the start of the lent bytes; returns how many these
+// are. With less room than ROOM nothing is done.
 pub fn line(
     text: &[u8],
     number: u64,
     image: &mut [u8],
     mem: &mut [u8],
-    answer: &mut [u8],
+    answer: &mut [u8; 32],
     out: &mut [u8],
-    at: usize,
 ) -> usize
-    requires { ⌜ (length (now answer) ≡ 32) × (at + 80 ≤ length (now out)) ⌝ }
-    ensures { λ r. ⌜ Lines (lineDoes (now (text .entry)) (now (image .entry)) (now (mem .entry))) number (now (out .entry)) (now (out .exit)) at (now (answer .exit)) (now (image .exit)) (now (mem .exit)) r ⌝ }
+    ensures { λ n. ⌜ Lines (now (text .entry)) number (now (image .entry)) (now (image .exit)) (now (mem .entry)) (now (mem .exit)) (now (answer .entry)) (now (answer .exit)) (now (out .entry)) (now (out .exit)) n ⌝ }
 {
+    if out.len() < ROOM {
+        return 0;
+    }
     perform(reading::order(text), image, mem, answer);
     let kind = words::read_word(answer, 0);
     let value = words::read_word(answer, 8);
     let size = words::read_word(answer, 16);
     let read = words::read_word(answer, 24);
-    printing::put_line(out, at, number, kind, value, size, read)
+    printing::put_line(out, 0, number, kind, value, size, read)
 }

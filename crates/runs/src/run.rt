@@ -3,19 +3,17 @@
 ghost use Prim.Native.Nat.{_+_, _≤_, _<_};
 ghost use mathlib.Core.Path.{_≡_};
 ghost use lib.ListN.{length};
+ghost use Rattle.rules.specs.Bits.{wordAt};
+ghost use Rattle.trace.specs.Totals.{counted};
 ghost use Rattle.trace.specs.Trace.{most};
-ghost use Rattle.runs.specs.Feeding.{begins, Adds, Keeps, Ends, Bounded, goesOn, Ready, Turns, Feeds, Finishes};
+ghost use Rattle.runs.specs.Feeding.{begins, Keeps, Gathers, textOf, Ends, Bounded, goesOn, Ready, Turns, Feeds, Finishes};
 use crate::line;
+use crate::line::ROOM;
 use trace::Totals;
 use trace::counting;
 
-const FEED: u8 = 10;
-
 // So many bytes are kept of a line: a good one has fewer.
 pub const ENOUGH: usize = 53;
-
-// A line is printed only where there is this much room.
-pub const ROOM: usize = 80;
 
 // Reading stops after so many lines.
 pub const MOST: u64 = 0xFFFF_FFFF;
@@ -25,12 +23,6 @@ pub struct Run {
     pub kept: usize,
     pub lines: u64,
     pub totals: Totals,
-}
-
-// How many bytes are kept, and where the line's end is, or the piece's.
-struct Kept {
-    count: usize,
-    at: usize,
 }
 
 // A run after a line, and the place after what is printed.
@@ -62,64 +54,77 @@ pub fn begin() -> Run
     }
 }
 
-// One byte more of a line, if there is room for it.
-fn add(kept: &mut [u8], n: usize, b: u8) -> usize
-    requires { ⌜ (length (now kept) ≡ 53) × (n ≤ 53) ⌝ }
-    ensures { λ r. ⌜ Adds (now (kept .entry)) n b (now (kept .exit)) r ⌝ }
+// More bytes of a line, as many as there is room for; returns how many are kept then.
+fn keep(kept: &mut [u8], count: usize, part: &[u8]) -> usize
+    requires { ⌜ (length (now kept) ≡ 53) × (count ≤ 53) ⌝ }
+    ensures { λ n. ⌜ Keeps (now (kept .entry)) count (now (part .entry)) (now (kept .exit)) n ⌝ }
 {
-    if n < ENOUGH {
-        kept[n] = b;
-        return n + 1;
+    let mut n = count;
+    let mut i = 0;
+    while (n < ENOUGH) & (i < part.len()) {
+        kept[n] = part[i];
+        n += 1;
+        i += 1;
     }
     n
 }
 
-// The bytes of a piece up to the line's end, or its own.
-fn keep(kept: &mut [u8], count: usize, piece: &[u8], from: usize) -> Kept
-    requires { ⌜ (length (now kept) ≡ 53) × ((count ≤ 53) × (from ≤ length (now piece))) ⌝ }
-    ensures { λ k. ⌜ Keeps (now (kept .entry)) count (now (piece .entry)) from (now (kept .exit)) (k .count) (k .at) ⌝ }
+// The rest of a line that ends here: kept only where its start is.
+fn gather(kept: &mut [u8], count: usize, part: &[u8]) -> usize
+    requires { ⌜ (length (now kept) ≡ 53) × (count ≤ 53) ⌝ }
+    ensures { λ n. ⌜ Gathers (now (kept .entry)) count (now (part .entry)) (now (kept .exit)) n ⌝ }
 {
-    let mut n = count;
-    let mut i = from;
-    while i < piece.len() {
-        let b = piece[i];
-        if b == FEED {
-            return Kept { count: n, at: i };
-        }
-        n = add(kept, n, b);
-        i += 1;
+    if count == 0 {
+        return 0;
     }
-    Kept { count: n, at: i }
+    keep(kept, count, part)
 }
 
-// The line that is kept ends here.
+// The line's text: where nothing of it is kept, it stands in the piece.
+fn text_of<'a>(kept: &'a [u8], n: usize, part: &'a [u8]) -> &'a [u8]
+    requires { ⌜ n ≤ length (now kept) ⌝ }
+    ensures { λ r. ⌜ now r ≡ textOf (now (kept .entry)) n (now (part .entry)) ⌝ }
+{
+    if n == 0 {
+        return part;
+    }
+    &kept[..n]
+}
+
+// The totals with one answer more, which a record holds.
+fn with_answer(t: Totals, answer: &[u8; 32]) -> Totals
+    ensures { λ r. ⌜ r ≡ counted t (record { kind = wordAt (now (answer .entry)) 0; value = 0; size = wordAt (now (answer .entry)) 16; read = wordAt (now (answer .entry)) 24 }) ⌝ }
+{
+    let kind = words::read_word(answer, 0);
+    let size = words::read_word(answer, 16);
+    let read = words::read_word(answer, 24);
+    counting::after(t, kind, size, read)
+}
+
+// A line ends: it is done, and its answer is counted.
 fn end_line(
     run: Run,
     image: &mut [u8],
     mem: &mut [u8],
-    kept: &[u8],
+    text: &[u8],
     out: &mut [u8],
     at: usize,
 ) -> Ended
-    requires { ⌜ (run .kept ≤ length (now kept)) × ((run .lines < most) × (at + 80 ≤ length (now out))) ⌝ }
-    ensures { λ e. ⌜ Ends run (now (image .entry)) (now (image .exit)) (now (mem .entry)) (now (mem .exit)) (now (kept .entry)) (now (out .entry)) (now (out .exit)) at e ⌝ }
+    requires { ⌜ (run .lines < most) × (at + 80 ≤ length (now out)) ⌝ }
+    ensures { λ e. ⌜ Ends run (now (image .entry)) (now (image .exit)) (now (mem .entry)) (now (mem .exit)) (now (text .entry)) (now (out .entry)) (now (out .exit)) at e ⌝ }
 {
     let mut answer = [0u8; 32];
-    let n = run.kept;
     let lines = run.lines + 1;
-    let written = line::line(&kept[..n], lines, image, mem, &mut answer, out, at);
-    let kind = words::read_word(&answer, 0);
-    let size = words::read_word(&answer, 16);
-    let read = words::read_word(&answer, 24);
+    let n = line::line(text, lines, image, mem, &mut answer, &mut out[at..]);
     let was = run.totals;
-    let totals = counting::after(was, kind, size, read);
+    let totals = with_answer(was, &answer);
     Ended {
         run: Run {
             kept: 0,
             lines,
             totals,
         },
-        written,
+        written: at + n,
     }
 }
 
@@ -135,26 +140,29 @@ fn turn(
     requires { ⌜ Ready fed (now kept) (now piece) (now out) ⌝ }
     ensures { λ g. ⌜ Turns fed (now (image .entry)) (now (image .exit)) (now (mem .entry)) (now (mem .exit)) (now (kept .entry)) (now (kept .exit)) (now (piece .entry)) (now (out .entry)) (now (out .exit)) g ⌝ }
 {
-    let was = fed.run;
-    let totals = was.totals;
-    let k = keep(kept, was.kept, piece, fed.taken);
-    let run = Run {
-        kept: k.count,
-        lines: was.lines,
-        totals,
-    };
-    if k.at == piece.len() {
+    let run = fed.run;
+    let from = fed.taken;
+    let at = reading::line_end(piece, from);
+    if at == piece.len() {
+        let n = keep(kept, run.kept, &piece[from..at]);
+        let totals = run.totals;
         return Fed {
-            run,
-            taken: k.at,
+            run: Run {
+                kept: n,
+                lines: run.lines,
+                totals,
+            },
+            taken: at,
             written: fed.written,
         };
     }
-    let ended = end_line(run, image, mem, kept, out, fed.written);
+    let n = gather(kept, run.kept, &piece[from..at]);
+    let text = text_of(kept, n, &piece[from..at]);
+    let ended = end_line(run, image, mem, text, out, fed.written);
     let next = ended.run;
     Fed {
         run: next,
-        taken: k.at + 1,
+        taken: at + 1,
         written: ended.written,
     }
 }
@@ -220,18 +228,18 @@ pub fn feed(
     turns(bounded(run), image, mem, kept, piece, out)
 }
 
-// The last line, if one lacks its end, and the totals.
-fn close(run: Run, image: &mut [u8], mem: &mut [u8], kept: &[u8], out: &mut [u8]) -> usize
-    requires { ⌜ (length (now kept) ≡ 53) × ((run .kept ≤ 53) × (160 ≤ length (now out))) ⌝ }
+// The last line, if it lacks its end, which it is given; and the totals.
+fn close(run: Run, image: &mut [u8], mem: &mut [u8], kept: &mut [u8], out: &mut [u8]) -> usize
+    requires { ⌜ (length (now kept) ≡ 53) × ((run .kept ≤ 53) × (length (now out) ≡ 160)) ⌝ }
     ensures { λ n. ⌜ Finishes run (now (image .entry)) (now (image .exit)) (now (mem .entry)) (now (mem .exit)) (now (kept .entry)) (now (out .exit)) n ⌝ }
 {
     let totals = run.totals;
-    if (run.kept == 0) | (MOST <= run.lines) {
+    if run.kept == 0 {
         return printing::put_totals(out, 0, totals);
     }
-    let ended = end_line(run, image, mem, kept, out, 0);
-    let last = ended.run;
-    printing::put_totals(out, ended.written, last.totals)
+    let fed = turns(run, image, mem, kept, b"\n", out);
+    let last = fed.run;
+    printing::put_totals(out, fed.written, last.totals)
 }
 
 // The input's end: the last line may lack its own; then the totals.
@@ -239,7 +247,7 @@ pub fn finish(
     run: Run,
     image: &mut [u8],
     mem: &mut [u8],
-    kept: &[u8; 53],
+    kept: &mut [u8; 53],
     out: &mut [u8; 160],
 ) -> usize
     ensures { λ n. ⌜ Finishes run (now (image .entry)) (now (image .exit)) (now (mem .entry)) (now (mem .exit)) (now (kept .entry)) (now (out .exit)) n ⌝ }

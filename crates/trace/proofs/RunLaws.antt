@@ -1,12 +1,19 @@
 -- Laws of a run over bytes: one piece after another is the two put together, and after the last line that is read nothing counts.
-use Prim.Native.Nat.{ℕ}
+use Prim.Native.Nat.{ℕ, zero, suc}
 use mathlib.Core.Path.{_≡_, refl, ap, sym, _∙_}
 use mathlib.Core.Bool.{true, false}
 use mathlib.Core.List.{List, [], _∷_, _++_, flatten, append-assoc}
 use lib.Dec.{eqb}
+use lib.ListN.{take}
 use Rattle.trace.specs.Text.{feed}
 use Rattle.trace.specs.Pieces.{Run, kept, Step, ends, isOver, byte, after, bytes}
 use Rattle.trace.specs.Claims.{pieces, Over}
+
+-- the start of a text, with more behind it, has the start of the two
+pub take-start : (n : ℕ) (xs ys : List ℕ) → take n (take n xs ++ ys) ≡ take n (xs ++ ys)
+take-start zero xs ys = refl
+take-start (suc n) [] ys = refl
+take-start (suc n) (x ∷ xs) ys = ap (λ (l : List ℕ). x ∷ l) (take-start n xs ys)
 
 after-after : (o q : List ℕ) (s : Step) → after (o ++ q) s ≡ after o (after q s)
 after-after o q s = ap (λ (l : List ℕ). record { out = l; run = s .run }) (append-assoc o q (s .out))

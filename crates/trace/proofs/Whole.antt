@@ -24,7 +24,7 @@ use Rattle.trace.specs.declared.Order.{Order}
 use Rattle.trace.specs.declared.Totals.{Totals}
 use Rattle.trace.proofs.LineLaws.{enough-says}
 use Rattle.trace.proofs.TotalLaws.{are-counts}
-use Rattle.trace.proofs.RunLaws.{pieces-flat, over, bytes-feed, bytes-other}
+use Rattle.trace.proofs.RunLaws.{take-start, pieces-flat, over, bytes-feed, bytes-other}
 
 -- ---- lines, with a text before the first
 abbrev front : List ℕ → List (List ℕ) → List (List ℕ)
@@ -75,11 +75,6 @@ rest-last r b g h e = let l : eqb (length (r .text)) 0 ≡ false = rw (e, eqb·s
 record Keeps (r : Run) (g : List ℕ) (k : ℕ) : Type 0 where
   text : r .text ≡ take enough g
   lines : r .lines + k ≡ most
-
-take-start : (n : ℕ) (xs ys : List ℕ) → take n (take n xs ++ ys) ≡ take n (xs ++ ys)
-take-start zero xs ys = refl
-take-start (suc n) [] ys = refl
-take-start (suc n) (x ∷ xs) ys = ap (λ (l : List ℕ). x ∷ l) (take-start n xs ys)
 
 -- all that is printed where the input ends after a step
 abbrev ended : Step → List ℕ

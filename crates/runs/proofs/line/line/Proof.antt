@@ -1,8 +1,11 @@
--- The order is done, and its answer read back and printed.
-use Rattle.runs.proofs.Answering.{line-printed}
+-- Without room nothing is done; else the order is done, and its answer read back and printed.
+use Rattle.runs.proofs.Answering.{line-none, line-printed}
 use borrow.Author.Needs.{needs}
 use Rattle.runs.proofs.line.line.Statement.{statement}
 use Rattle.runs.proofs.line.line.Tie as tie
+
+returns : tie.Need-returns
+returns c = search line-none
 
 order-requires : tie.Need-order-requires
 order-requires c κs = search needs
@@ -34,24 +37,23 @@ same-length-2 c = search needs
 same-length-3 : tie.Need-same-length-3
 same-length-3 c = search needs
 
-same-length-4 : tie.Need-same-length-4
-same-length-4 c = search needs
-
-returns : tie.Need-returns
-returns c =
+returns-2 : tie.Need-returns-2
+returns-2 c =
     let p = c .before .before in
     let fourth = p .before .before in
-    let third = fourth .before .before in
-    let second = third .before .before in
-    let first = second .before .before in
-    let done = first .before .before .before .before .before .before .before .before in
-    line-printed (done .before .before .before .before .order .result) _ _ _ _ _ _ _ _ _ _ _ _ _ _ _ (done .before .before .before .before .order .ensures) (done .perform .ensures) (first .read-word .ensures) (second .read-word2 .ensures)
+    let third = fourth .before .before .before in
+    let second = third .before .before .before in
+    let first = second .before .before .before in
+    let done = first .before .before .before .before .before .before .before in
+    let order = done .before .before .before .before in
+    line-printed (order .order .result) _ _ _ _ _ _ _ _ _ _ _ _ _ _ _ (order .order .ensures) (order .before .if1 .left) (done .perform .ensures) (first .read-word .ensures) (second .read-word2 .ensures)
     (third .read-word3 .ensures) (fourth .read-word4 .ensures) (p .put-line .ensures)
 
 pub line-spec : {M : Type 1} → statement M
 line-spec =
     tie.close
     (tie.spec
+    returns
     order-requires
     perform-requires
     read-word-requires
@@ -62,5 +64,4 @@ line-spec =
     same-length
     same-length-2
     same-length-3
-    same-length-4
-    returns)
+    returns-2)

@@ -1,6 +1,5 @@
--- The totals, or the last line and they.
-use Rattle.runs.proofs.Finishing.{lines-left, finish-none, finish-room, finish-line}
-use native.Mathlib.Omega.{arith}
+-- The totals; or the last line, which is given its end, and they.
+use Rattle.runs.proofs.Finishing.{finish-none, finish-room, finish-line}
 use borrow.Author.Needs.{needs}
 use Rattle.runs.proofs.run.close.Statement.{statement}
 use Rattle.runs.proofs.run.close.Tie as tie
@@ -14,16 +13,14 @@ same-length c = search needs
 returns : tie.Need-returns
 returns c = search finish-none
 
-end-line-requires : tie.Need-end-line-requires
-end-line-requires c κs =
-    let asked = c .before .before .before in
-    let start = asked .before .before .before .before .before .before .before .before in
-    (omega (arith, start .pre .0, start .pre .1 .0), (lines-left (start .args .run) (asked .if1 .left), omega (arith, start .pre .1 .1)))
+slice-aggregate-turns : tie.Need-slice-aggregate-turns
+slice-aggregate-turns c = search needs
+
+turns-requires : tie.Need-turns-requires
+turns-requires c κs = search needs
 
 put-totals-requires-2 : tie.Need-put-totals-requires-2
-put-totals-requires-2 c κs =
-    let ended = c .before .before .before .before .before .before .before .before in
-    omega (arith, finish-room _ _ _ _ _ _ _ _ _ (ended .end-line .ensures), ended .end-line .kept .1 .1 .1 .1 .0, ended .before .before .before .before .before .before .before .before .before .before .before .before .pre .1 .1)
+put-totals-requires-2 c κs = search finish-room
 
 same-length-2 : tie.Need-same-length-2
 same-length-2 c = search needs
@@ -34,8 +31,15 @@ same-length-3 c = search needs
 same-length-4 : tie.Need-same-length-4
 same-length-4 c = search needs
 
+same-length-5 : tie.Need-same-length-5
+same-length-5 c = search needs
+
 returns-2 : tie.Need-returns-2
-returns-2 c = search finish-line
+returns-2 c =
+    let put = c .before .before in
+    let turned = put .before .before .before .before .before .before .before .before .before .before .before in
+    let start = turned .before .before .before .before .before .before .before .before .before .before .before .before .before in
+    finish-line _ _ _ _ _ _ _ _ _ _ (start .pre .0) (start .pre .1 .0) (turned .before .before .before .before .before .before .if1 .left) (start .pre .1 .1) (turned .turns .kept .1 .1 .1 .1 .1 .0) (turned .turns .ensures) _ _ (put .put-totals2 .ensures)
 
 pub close-spec : {M : Type 1} → statement M
 close-spec =
@@ -44,9 +48,11 @@ close-spec =
     put-totals-requires
     same-length
     returns
-    end-line-requires
+    slice-aggregate-turns
+    turns-requires
     put-totals-requires-2
     same-length-2
     same-length-3
     same-length-4
+    same-length-5
     returns-2)
