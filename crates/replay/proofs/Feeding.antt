@@ -2,7 +2,7 @@
 -- changes nothing.
 use Prim.Native.Nat.{ℕ, _+_, _-_, _≤_, _<_}
 use mathlib.Core.Path.{_≡_, refl, ap, sym, _∙_, subst}
-use mathlib.Core.Bool.{Bool, true, false}
+use mathlib.Core.Bool.{Bool, true, false, true≢false}
 use mathlib.Core.List.{List}
 use native.Mathlib.Omega.{arith}
 use lib.ListN.{length, take, drop, take-append-drop, length-drop, drop-of-length-le}
@@ -73,19 +73,23 @@ module _ (r₀ : RunOf) (b₀ : List ℕ) (mem₀ : Memory) (kept₀ piece out�
         rest = rw (← drop-drop (f .taken) at piece) part-rest;
       }
 
-  pub feeding-over : f .taken ≡ 0 → TakesAll r₀ (f .run) b₀ b′ mem₀ mem′ kept₀ kept′ piece
+  pub feeding-over : f .taken ≡ 0 → TakesAll r₀ (record { run = f .run; whole = true }) b₀ b′ mem₀ mem′ kept₀ kept′ piece
   feeding-over e =
       let none : taking (length out) (runOf r kept b mem) (drop at piece) .taken ≡ 0 = ap (λ (t : Taken). t .taken) (sym (d .taken)) ∙ e in
       let ended : isOver (runOf r kept b mem) ≡ true = none-taken (length out) (runOf r kept b mem) (drop at piece) (h .roomy) (omega (arith, length-drop at piece)) none in
       let same : runOf (f .run) kept′ b′ mem′ ≡ runOf r kept b mem = ap (λ (t : Taken). t .step .run) (d .taken) ∙ stays (length out) (runOf r kept b mem) (drop at piece) none in
       record {
-        run =
+        run = λ t.
             same
             ∙ ap (λ (s : Step). s .run) (sym (over (runOf r kept b mem) (drop at piece) ended))
             ∙ h .rest;
       }
 
 pub feeding-all : (r₀ : RunOf) (b₀ : List ℕ) (mem₀ : Memory) (kept₀ piece out₀ : List ℕ) (b : List ℕ) (mem : Memory) (kept out : List ℕ) (r : RunOf) (at : ℕ)
-    → Feeding r₀ b₀ mem₀ kept₀ piece out₀ b mem kept out r at → length piece ≤ at → TakesAll r₀ r b₀ b mem₀ mem kept₀ kept piece
+    → Feeding r₀ b₀ mem₀ kept₀ piece out₀ b mem kept out r at → length piece ≤ at → TakesAll r₀ (record { run = r; whole = true }) b₀ b mem₀ mem kept₀ kept piece
 unfolding bytes
-feeding-all r₀ b₀ mem₀ kept₀ piece out₀ b mem kept out r at h e = record { run = rw (drop-of-length-le piece e) at (h .rest) }
+feeding-all r₀ b₀ mem₀ kept₀ piece out₀ b mem kept out r at h e = record { run = λ t. rw (drop-of-length-le piece e) at (h .rest) }
+
+-- nothing is claimed where a write failed
+pub feeding-lost : (r₀ r : RunOf) (b₀ b : List ℕ) (mem₀ mem : Memory) (kept₀ kept piece : List ℕ) → TakesAll r₀ (record { run = r; whole = false }) b₀ b mem₀ mem kept₀ kept piece
+feeding-lost r₀ r b₀ b mem₀ mem kept₀ kept piece = record { run = λ t. absurd (true≢false (sym t)) }

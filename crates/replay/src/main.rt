@@ -6,7 +6,13 @@ ghost use Rattle.replay.specs.Fed.{TakesAll};
 use runs::run;
 use runs::run::Run;
 
-// A piece goes in, and what it prints goes out, in as many writes as the room asks for. No byte of it is left out.
+// A run after a piece, and whether all that it prints was written.
+struct Written {
+    run: Run,
+    whole: bool,
+}
+
+// A piece goes in, and what it prints goes out, in as many writes as the room asks for. No byte of it is left out, unless a write fails.
 fn feed_all(
     run: Run,
     image: &mut [u8],
@@ -14,9 +20,9 @@ fn feed_all(
     kept: &mut [u8; 53],
     piece: &[u8],
     out: &mut [u8],
-) -> Run
+) -> Written
     requires { ⌜ 80 ≤ length (now out) ⌝ }
-    ensures { λ r. ⌜ TakesAll run r (now (image .entry)) (now (image .exit)) (now (mem .entry)) (now (mem .exit)) (now (kept .entry)) (now (kept .exit)) (now (piece .entry)) ⌝ }
+    ensures { λ w. ⌜ TakesAll run w (now (image .entry)) (now (image .exit)) (now (mem .entry)) (now (mem .exit)) (now (kept .entry)) (now (kept .exit)) (now (piece .entry)) ⌝ }
 {
     let mut run = run;
     let mut at = 0;
@@ -24,13 +30,15 @@ fn feed_all(
         let fed = run::feed(run, image, mem, kept, &piece[at..], out);
         run = fed.run;
         let n = fed.written;
-        io::write_all(1, &out[..n]);
+        if !io::write_all(1, &out[..n]) {
+            return Written { run, whole: false };
+        }
         if fed.taken == 0 {
-            return run;
+            return Written { run, whole: true };
         }
         at += fed.taken;
     }
-    run
+    Written { run, whole: true }
 }
 
 // The same for the program's own bytes.
@@ -41,8 +49,8 @@ fn feed_piece(
     kept: &mut [u8; 53],
     piece: &[u8],
     out: &mut [u8; 65536],
-) -> Run
-    ensures { λ r. ⌜ TakesAll run r (now (image .entry)) (now (image .exit)) (now (mem .entry)) (now (mem .exit)) (now (kept .entry)) (now (kept .exit)) (now (piece .entry)) ⌝ }
+) -> Written
+    ensures { λ w. ⌜ TakesAll run w (now (image .entry)) (now (image .exit)) (now (mem .entry)) (now (mem .exit)) (now (kept .entry)) (now (kept .exit)) (now (piece .entry)) ⌝ }
 {
     feed_all(run, image, mem, kept, piece, out)
 }
@@ -68,7 +76,12 @@ fn main() {
         if n == 0 {
             break;
         }
-        run = feed_piece(run, &mut image, &mut mem, &mut kept, &input[..n], &mut out);
+        let written = feed_piece(run, &mut image, &mut mem, &mut kept, &input[..n], &mut out);
+        // An output that lacks its last line is seen not to be whole.
+        if !written.whole {
+            return;
+        }
+        run = written.run;
         if run::MOST <= run.lines {
             break;
         }

@@ -1,8 +1,8 @@
 pub mod LineLaws
 pub mod TotalLaws
 pub mod RunLaws
-pub mod Taking
 pub mod Whole
+pub mod Taking
 pub mod Room
 pub mod Cases
 pub mod Machine

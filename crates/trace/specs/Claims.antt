@@ -66,3 +66,27 @@ Fits = (left : ℕ) (r : Run) (p : List ℕ) → length (taking left r p .step .
 -- after the last line that is read nothing counts, so a reader may stop there
 abbrev pub Over : Type 0
 Over = (r : Run) (p : List ℕ) → isOver r ≡ true → bytes r p ≡ record { out = []; run = r }
+
+-- ---- calls, one after the other
+-- a piece, and how many bytes are lent for what it prints
+pub record Call : Type 0 where
+  pub piece : List ℕ
+  pub lent : ℕ
+
+-- what calls took of their pieces in all, what they printed, and the run that they left
+pub record Called : Type 0 where
+  pub took : List ℕ
+  pub out : List ℕ
+  pub run : Run
+
+-- each from the run that the one before left
+abbrev pub called : Run → List Call → Called
+called r [] = record { took = []; out = []; run = r }
+called r (c ∷ cs) =
+    let t : Taken = taking (c .lent) r (c .piece) in
+    let rest : Called = called (t .step .run) cs in
+    record { took = take (t .taken) (c .piece) ++ rest .took; out = t .step .out ++ rest .out; run = rest .run }
+
+-- whatever the pieces and the room are, what is printed in all is the output of all that was taken
+abbrev pub InCalls : Type 0
+InCalls = (cs : List Call) → called begun cs .out ++ finished (called begun cs .run) ≡ output (called begun cs .took)

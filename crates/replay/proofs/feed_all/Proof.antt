@@ -5,7 +5,7 @@ use lib.ListN.{length, length-drop}
 use lib.Seq.{length-take-le}
 use native.Mathlib.Omega.{arith}
 use borrow.Author.Needs.{needs}
-use Rattle.replay.proofs.Feeding.{Feeding, feeding-none, feeding-more, feeding-over, feeding-all}
+use Rattle.replay.proofs.Feeding.{Feeding, feeding-none, feeding-more, feeding-over, feeding-all, feeding-lost}
 use Rattle.replay.proofs.feed_all.Statement.{statement}
 use Rattle.replay.proofs.feed_all.Tie as tie
 
@@ -51,27 +51,7 @@ same-length-3 : tie.Need-same-length-3 Inv-loop μ-loop
 same-length-3 c = search needs
 
 returns : tie.Need-returns Inv-loop μ-loop
-returns c =
-    let fed = c .before .before .before .before .before .before .before .before .before .before .before in
-    let turn = fed .before .before .before .before .before .before in
-    feeding-over _ _ _ _ _ _ _ _ _ _ _ _ (turn .before .loop .inv) _ _ _ _ _ (turn .loop-test .taken) (fed .feed .ensures) (c .if1 .taken)
-
-add-at : tie.Need-add-at Inv-loop μ-loop
-add-at c =
-    let fed = c .before .before .before .before .before .before .before .before .before .before .before .before in
-    let turn = fed .before .before .before .before .before .before in
-    let start = turn .before .before .before .before .before .before in
-    omega (arith, fed .feed .ensures .within, length-drop (turn .before .loop .at) (start .args .piece .now), turn .loop-test .taken, start .good .1 .1 .1 .1 .0 .0)
-
-loop-less : tie.Need-loop-less Inv-loop μ-loop
-loop-less c = search needs
-
-loop-again : tie.Need-loop-again Inv-loop μ-loop
-loop-again c =
-    let fed = c .before .before .before .before .before .before .before .before .before .before .before .before in
-    let turn = fed .before .before .before .before .before .before in
-    feeding-more _ _ _ _ _ _ _ _ _ _ _ _ (turn .before .loop .inv) _ _ _ _ _ (turn .loop-test .taken) (fed .feed .ensures) (fed .feed .kept .1 .0)
-    (fed .feed .kept .1 .1 .0) (fed .feed .kept .1 .1 .1 .1 .1 .0)
+returns c = search feeding-lost
 
 same-length-4 : tie.Need-same-length-4 Inv-loop μ-loop
 same-length-4 c = search needs
@@ -83,7 +63,39 @@ same-length-6 : tie.Need-same-length-6 Inv-loop μ-loop
 same-length-6 c = search needs
 
 returns-2 : tie.Need-returns-2 Inv-loop μ-loop
-returns-2 c = search feeding-all
+returns-2 c =
+    let fed = c .before .before .before .before .before .before .before .before .before .before .before .before in
+    let turn = fed .before .before .before .before .before .before in
+    feeding-over _ _ _ _ _ _ _ _ _ _ _ _ (turn .before .loop .inv) _ _ _ _ _ (turn .loop-test .taken) (fed .feed .ensures) (c .if2 .taken)
+
+add-at : tie.Need-add-at Inv-loop μ-loop
+add-at c =
+    let fed = c .before .before .before .before .before .before .before .before .before .before .before .before .before in
+    let turn = fed .before .before .before .before .before .before in
+    let start = turn .before .before .before .before .before .before in
+    omega (arith, fed .feed .ensures .within, length-drop (turn .before .loop .at) (start .args .piece .now), turn .loop-test .taken, start .good .1 .1 .1 .1 .0 .0)
+
+loop-less : tie.Need-loop-less Inv-loop μ-loop
+loop-less c = search needs
+
+loop-again : tie.Need-loop-again Inv-loop μ-loop
+loop-again c =
+    let fed = c .before .before .before .before .before .before .before .before .before .before .before .before .before in
+    let turn = fed .before .before .before .before .before .before in
+    feeding-more _ _ _ _ _ _ _ _ _ _ _ _ (turn .before .loop .inv) _ _ _ _ _ (turn .loop-test .taken) (fed .feed .ensures) (fed .feed .kept .1 .0)
+    (fed .feed .kept .1 .1 .0) (fed .feed .kept .1 .1 .1 .1 .1 .0)
+
+same-length-7 : tie.Need-same-length-7 Inv-loop μ-loop
+same-length-7 c = search needs
+
+same-length-8 : tie.Need-same-length-8 Inv-loop μ-loop
+same-length-8 c = search needs
+
+same-length-9 : tie.Need-same-length-9 Inv-loop μ-loop
+same-length-9 c = search needs
+
+returns-3 : tie.Need-returns-3 Inv-loop μ-loop
+returns-3 c = search feeding-all
 
 pub feed-all-spec : {M : Type 1} → statement M
 feed-all-spec =
@@ -103,10 +115,14 @@ feed-all-spec =
     same-length-2
     same-length-3
     returns
-    add-at
-    loop-less
-    loop-again
     same-length-4
     same-length-5
     same-length-6
-    returns-2)
+    returns-2
+    add-at
+    loop-less
+    loop-again
+    same-length-7
+    same-length-8
+    same-length-9
+    returns-3)

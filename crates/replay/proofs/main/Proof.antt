@@ -44,6 +44,9 @@ slice-aggregate-feed-piece c = search needs
 feed-piece-requires : tie.Need-feed-piece-requires Inv-loop μ-loop
 feed-piece-requires c κs = search needs
 
+returns : tie.Need-returns Inv-loop μ-loop
+returns c = search needs
+
 sub-pieces : tie.Need-sub-pieces Inv-loop μ-loop
 sub-pieces c = search needs
 
@@ -56,8 +59,8 @@ loop-again c = search needs
 finish-requires : tie.Need-finish-requires Inv-loop μ-loop
 finish-requires c κs = search needs
 
-returns : tie.Need-returns Inv-loop μ-loop
-returns c = search needs
+returns-2 : tie.Need-returns-2 Inv-loop μ-loop
+returns-2 c = search needs
 
 pub main-spec : {M : Type 1} → statement M
 main-spec =
@@ -76,8 +79,9 @@ main-spec =
     array-share-prefix-input
     slice-aggregate-feed-piece
     feed-piece-requires
+    returns
     sub-pieces
     loop-less
     loop-again
     finish-requires
-    returns)
+    returns-2)
