@@ -66,7 +66,7 @@ demo: tools $(HOST)/demo
 
 # The program that replays a trace from its standard input, and the words that run it here.
 replay: tools $(REPLAY)
-	@echo "$(RUN) $(REPLAY) <TRACE"
+	@echo $(RUN) $(REPLAY) '<TRACE'
 
 install: $(ARCHIVE)
 	install -d "$(DESTDIR)$(includedir)" "$(DESTDIR)$(libdir)/pkgconfig"

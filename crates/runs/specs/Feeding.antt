@@ -19,13 +19,13 @@ abbrev pub ahead : List ℕ → ℕ → Taken → Taken
 ahead o n t = record { step = after o (t .step); taken = t .taken + n }
 
 -- ---- a line's text, of which the start is kept
--- so many bytes are kept with these behind them as there is room for
+-- what is kept, with these bytes behind it, as far as there is room
 pub record Keeps (kept : List ℕ) (count : ℕ) (part kept′ : List ℕ) (n : ℕ) : Type 0 where
   pub low : count ≤ n
   pub few : n ≤ enough
   pub text : take n kept′ ≡ take enough (take count kept ++ part)
 
--- where none are kept, none are
+-- the rest of a line that ends: where no start is kept, nothing is
 pub record Gathers (kept : List ℕ) (count : ℕ) (part kept′ : List ℕ) (n : ℕ) : Type 0 where
   pub none : count ≡ 0 → n ≡ 0
   pub some : 0 < count → Keeps kept count part kept′ n
