@@ -8,11 +8,9 @@ ghost use Rattle.trace.specs.Numbers.{digits, byteOf, hexOf};
 ghost use Rattle.trace.specs.Printed.{joined, wordFor, printed, totalLine};
 ghost use Rattle.printing.specs.Puts.{Puts};
 ghost use Rattle.printing.specs.Parts.{Counts, Holds};
+use trace::FEED;
+use trace::TAB;
 use trace::Totals;
-
-const TAB: u8 = 9;
-
-const FEED: u8 = 10;
 
 // A word and a tab in eight bytes, lowest first; what stands after them does not count.
 struct Word {

@@ -1,6 +1,6 @@
 -- A line's end is looked for byte by byte: past a byte that is no line feed it is where it was, and it is here at a line feed or at the text's end.
 use Prim.Native.Nat.{ℕ, _+_, _≤_, _<_}
-use mathlib.Core.Path.{_≡_, refl, sym, _∙_}
+use mathlib.Core.Path.{_≡_, refl}
 use mathlib.Core.List.{List}
 use native.Mathlib.Numerals.{add-one}
 use native.Mathlib.Omega.{arith}

@@ -6,11 +6,9 @@ ghost use Rattle.trace.specs.Text.{feed};
 ghost use Rattle.trace.specs.Numbers.{digitOf};
 ghost use Rattle.trace.specs.Orders.{withOne, withTwo, withThree, orderOf};
 ghost use Rattle.reading.specs.Fields.{endAt, ended as endedOf, fieldAt};
+use trace::FEED;
 use trace::Order;
-
-const TAB: u8 = 9;
-
-const FEED: u8 = 10;
+use trace::TAB;
 
 // A field's number, and where the next field starts: after the tab, or past the line's end by one.
 enum Found {

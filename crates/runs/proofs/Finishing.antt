@@ -1,10 +1,10 @@
 -- The input's end: where nothing is kept of a line that lacks its end, the totals alone; else that line is given its end, and then the totals.
-use Prim.Native.Nat.{ℕ, _+_, _≤_, _<_}
-use mathlib.Core.Path.{_≡_, refl, ap, ap₂, sym, _∙_}
+use Prim.Native.Nat.{ℕ, _+_, _≤_}
+use mathlib.Core.Path.{_≡_, refl, ap, _∙_}
 use mathlib.Core.Bool.{Bool, true, false, _||_, or-true}
 use mathlib.Core.List.{List, [], _∷_, _++_, append-nil}
 use native.Mathlib.Omega.{arith}
-use lib.Dec.{eqb, ltb}
+use lib.Dec.{eqb}
 use lib.ListN.{length, take}
 use lib.Seq.{length-take-le}
 use borrow.Author.Tests.{le-ltb, ne-eqb}
@@ -14,7 +14,6 @@ use Rattle.trace.specs.Text.{feed}
 use Rattle.trace.specs.Does.{lineDoes}
 use Rattle.trace.specs.Printed.{totalLine}
 use Rattle.trace.specs.Pieces.{Run, Step, ends, isOver, lastLine, finished, room, Taken, taking}
-use Rattle.trace.specs.declared.Totals.{Totals}
 use Rattle.trace.proofs.Room.{line-low}
 use Rattle.printing.specs.Puts.{Puts}
 use Rattle.printing.proofs.Putting.{puts-fits}

@@ -5,7 +5,7 @@ use mathlib.Core.Bool.{Bool, true, false, true≢false, _&&_}
 use mathlib.Core.List.{List, [], _∷_, _++_, append-nil, append-assoc}
 use native.Mathlib.Omega.{arith}
 use native.Mathlib.Numerals.{add-one}
-use lib.Dec.{eqb, ltb}
+use lib.Dec.{ltb}
 use lib.ListN.{length, getD, take, set, length-append, length-set}
 use lib.Seq.{length-take-le, take-all, take-suc, take-suc-set, take-append-add}
 use borrow.Author.Tests.{ltb-true, ltb-false, eq-eqb, ne-eqb}

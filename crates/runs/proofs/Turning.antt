@@ -8,7 +8,7 @@ use native.Mathlib.Nat.{add-zero, sub-zero}
 use native.Mathlib.Numerals.{add-one}
 use lib.Dec.{eqb}
 use lib.ListN.{length, take, drop, length-drop, length-take}
-use lib.Seq.{length-take-le, take-all, drop-drop}
+use lib.Seq.{take-all, drop-drop}
 use borrow.Author.Tests.{le-ltb, lt-leb}
 use Rattle.rules.specs.Memory.{Memory}
 use Rattle.rules.proofs.BoolLaws.{or-right}
@@ -18,7 +18,7 @@ use Rattle.trace.specs.Does.{Given, does}
 use Rattle.trace.specs.Printed.{printed}
 use Rattle.trace.specs.Totals.{counted}
 use Rattle.trace.specs.Trace.{most}
-use Rattle.trace.specs.Pieces.{Run, Step, after, enough, ends, room, Taken, isFull, isOver, onward, taking}
+use Rattle.trace.specs.Pieces.{Run, Step, after, enough, ends, room, Taken, isFull, isOver, taking}
 use Rattle.trace.specs.declared.Order.{Order}
 use Rattle.trace.proofs.RunLaws.{take-start}
 use Rattle.reading.specs.Fields.{width, endAt}
@@ -48,9 +48,6 @@ unfolding width
 line-bytes left r [] h l = rw (append-nil (r .text), take-all enough (r .text) l, add-zero)
 line-bytes left r (b ∷ bs) h l = go (eqb b feed) refl (line-bytes left (withText (take enough (r .text ++ (b ∷ []))) r) bs h (omega (arith, length-take enough (r .text ++ (b ∷ [])))))
   where
-    w : ℕ
-    w = width feed bs
-
     go : (q : Bool) → eqb b feed ≡ q
         → taking left (withText (take enough (r .text ++ (b ∷ []))) r) bs
         ≡ ahead [] (width feed bs) (taking left (withText (take enough (take enough (r .text ++ (b ∷ [])) ++ take (width feed bs) bs)) r) (drop (width feed bs) bs))

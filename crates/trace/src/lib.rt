@@ -1,6 +1,11 @@
-// The types that request W-206 names, by value. What a trace means is said in specs/.
+// The types and separators that request W-206 names, by value. What a trace means is said in specs/.
 
 pub mod counting; // counting.rt: one answer more in the totals
+
+// What parts a line's fields, and what ends a line.
+pub const TAB: u8 = 9;
+
+pub const FEED: u8 = 10;
 
 // What a field's bytes are.
 pub enum Number {

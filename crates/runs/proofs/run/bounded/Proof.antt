@@ -1,6 +1,5 @@
 -- As it is, or with all that there is room for.
 use Rattle.runs.proofs.Feeding.{bounded-few, bounded-all}
-use borrow.Author.Needs.{needs}
 use Rattle.runs.proofs.run.bounded.Statement.{statement}
 use Rattle.runs.proofs.run.bounded.Tie as tie
 

@@ -1,7 +1,6 @@
 -- What was taken, with what the rest takes, is the whole (`Feeding`).
 use Prim.Native.Nat.{_-_}
 use lib.ListN.{length}
-use native.Mathlib.Omega.{arith}
 use borrow.Author.Needs.{needs}
 use Rattle.runs.proofs.Feeding.{Feeding, feeding-none, ready, feeding-more, feeding-all}
 use Rattle.runs.proofs.run.turns.Statement.{statement}
