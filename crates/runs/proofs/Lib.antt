@@ -4,3 +4,4 @@ pub mod Keeping
 pub mod Turning
 pub mod Feeding
 pub mod Finishing
+pub mod Unique
