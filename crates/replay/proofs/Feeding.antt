@@ -11,8 +11,8 @@ use Rattle.rules.specs.Memory.{Memory}
 use Rattle.trace.specs.Pieces.{Run, Step, isOver, bytes, Taken, taking}
 use Rattle.trace.proofs.RunLaws.{bytes-append, over}
 use Rattle.trace.proofs.Taking.{takes}
-use Rattle.runs.specs.declared.run.Run.{Run as RunOf}
-use Rattle.runs.specs.declared.run.Fed.{Fed}
+use Rattle.runs.specs.declared.Run.{Run as RunOf}
+use Rattle.runs.specs.declared.Fed.{Fed}
 use Rattle.runs.specs.Feeding.{runOf, Feeds}
 use Rattle.replay.specs.Fed.{TakesAll}
 

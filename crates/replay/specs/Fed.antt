@@ -5,7 +5,7 @@ use mathlib.Core.Bool.{true}
 use mathlib.Core.List.{List}
 use Rattle.rules.specs.Memory.{Memory}
 use Rattle.trace.specs.Pieces.{bytes}
-use Rattle.runs.specs.declared.run.Run.{Run}
+use Rattle.runs.specs.declared.Run.{Run}
 use Rattle.runs.specs.Feeding.{runOf}
 use Rattle.replay.specs.declared.Written.{Written}
 

@@ -3,8 +3,7 @@
 ghost use Prim.Native.Nat.{_≤_};
 ghost use lib.ListN.{length};
 ghost use Rattle.replay.specs.Fed.{TakesAll};
-use runs::run;
-use runs::run::Run;
+use runs::Run;
 
 // A run after a piece, and whether all that it prints was written.
 struct Written {
@@ -27,7 +26,7 @@ fn feed_all(
     let mut run = run;
     let mut at = 0;
     while at < piece.len() {
-        let fed = run::feed(run, image, mem, kept, &piece[at..], out);
+        let fed = runs::feed(run, image, mem, kept, &piece[at..], out);
         run = fed.run;
         let n = fed.written;
         if !io::write_all(1, &out[..n]) {
@@ -58,7 +57,7 @@ fn feed_piece(
 // The last line, if it lacks its end, and the totals.
 fn finish(run: Run, image: &mut [u8; 2048], mem: &mut [u8; 65536], kept: &mut [u8; 53]) {
     let mut out = [0u8; 160];
-    let n = run::finish(run, image, mem, kept, &mut out);
+    let n = runs::finish(run, image, mem, kept, &mut out);
     io::write_all(1, &out[..n]);
 }
 
@@ -68,7 +67,7 @@ fn main() {
     let mut kept = [0u8; 53];
     let mut out = io::large_buffer();
     let mut input = io::large_buffer();
-    let mut run = run::begin();
+    let mut run = runs::begin();
     // Nothing says that the input ends: a count that falls lets the program do so.
     let mut pieces: u64 = 0xFFFF_FFFF_FFFF_FFFF;
     while 0 < pieces {
@@ -82,7 +81,7 @@ fn main() {
             return;
         }
         run = written.run;
-        if run::MOST <= run.lines {
+        if runs::MOST <= run.lines {
             break;
         }
         pieces -= 1;

@@ -15,8 +15,8 @@ use Rattle.rules.proofs.BoolLaws.{and-left, and-right}
 use Rattle.trace.specs.Trace.{most}
 use Rattle.trace.specs.Pieces.{Run, enough, room, Taken, isFull, taking}
 use Rattle.printing.proofs.Putting.{puts-fits}
-use Rattle.runs.specs.declared.run.Run.{Run as RunOf}
-use Rattle.runs.specs.declared.run.Fed.{Fed}
+use Rattle.runs.specs.declared.Run.{Run as RunOf}
+use Rattle.runs.specs.declared.Fed.{Fed}
 use Rattle.runs.specs.Feeding.{ahead, runOf, goesOn, Ready, Turns, Bounded, Feeds}
 
 in-order : (o q : List ℕ) (m n : ℕ) (t : Taken) → ahead o m (ahead q n t) ≡ ahead (o ++ q) (m + n) t

@@ -17,8 +17,8 @@ use Rattle.trace.specs.Pieces.{Run, Step, ends, isOver, lastLine, finished, roo
 use Rattle.trace.proofs.Room.{line-low}
 use Rattle.printing.specs.Puts.{Puts}
 use Rattle.printing.proofs.Putting.{puts-fits}
-use Rattle.runs.specs.declared.run.Run.{Run as RunOf}
-use Rattle.runs.specs.declared.run.Fed.{Fed}
+use Rattle.runs.specs.declared.Run.{Run as RunOf}
+use Rattle.runs.specs.declared.Fed.{Fed}
 use Rattle.runs.specs.Feeding.{runOf, Bounded, Feeds, Finishes}
 
 pub finish-none : (r : RunOf) (b : List ℕ) (mem : Memory) (kept out out′ : List ℕ) (n : ℕ) → r .kept ≡ 0

@@ -1,6 +1,5 @@
-pub mod Doing
-pub mod Answering
 pub mod Keeping
+pub mod Ending
 pub mod Turning
 pub mod Feeding
 pub mod Finishing

@@ -23,8 +23,8 @@ use Rattle.trace.specs.declared.Order.{Order}
 use Rattle.trace.proofs.RunLaws.{take-start}
 use Rattle.reading.specs.Fields.{width, endAt}
 use Rattle.reading.proofs.Parts.{width-le, separator-at}
-use Rattle.runs.specs.declared.run.Ended.{Ended}
-use Rattle.runs.specs.declared.run.Fed.{Fed}
+use Rattle.runs.specs.declared.Ended.{Ended}
+use Rattle.runs.specs.declared.Fed.{Fed}
 use Rattle.runs.specs.Feeding.{ahead, Keeps, Gathers, textOf, runWith, runOf, Ends, Ready, Turns}
 use Rattle.runs.proofs.Keeping.{text-asks}
 

@@ -8,9 +8,8 @@ use lib.ListN.{length, take}
 use lib.Seq.{length-take-le}
 use Rattle.rules.specs.Memory.{Memory}
 use Rattle.trace.specs.Pieces.{Taken}
-use Rattle.runs.specs.declared.run.Run.{Run as RunOf}
-use Rattle.runs.specs.declared.run.Fed.{Fed}
-use Rattle.runs.specs.Line.{Outcome, Lines}
+use Rattle.runs.specs.declared.Run.{Run as RunOf}
+use Rattle.runs.specs.declared.Fed.{Fed}
 use Rattle.runs.specs.Feeding.{runOf, Feeds, Finishes}
 
 -- so many bytes are printed as there are
@@ -18,12 +17,6 @@ count-one : (n₁ n₂ : ℕ) (out₁ out₂ : List ℕ) → n₁ ≤ length out
 count-one n₁ n₂ out₁ out₂ h g e = sym (length-take-le n₁ out₁ h) ∙ ap length e ∙ length-take-le n₂ out₂ g
 
 module _ (b b₁ b₂ : List ℕ) (mem mem₁ mem₂ : Memory) (out₁ out₂ : List ℕ) where
-  pub lines-one : (text : List ℕ) (number : ℕ) (r r₁ r₂ out : List ℕ) (n₁ n₂ : ℕ)
-      → Lines text number b b₁ mem mem₁ r r₁ out out₁ n₁ → Lines text number b b₂ mem mem₂ r r₂ out out₂ n₂
-      → (n₁ ≡ n₂)
-      × _≡_ {A = Outcome} (record { text = take n₁ out₁; answer = r₁; image = b₁; memory = mem₁ }) (record { text = take n₂ out₂; answer = r₂; image = b₂; memory = mem₂ })
-  lines-one text number r r₁ r₂ out n₁ n₂ h g = (h .count ∙ sym (g .count), h .outcome ∙ sym (g .outcome))
-
   pub feeds-one : (r : RunOf) (kept kept₁ kept₂ piece out : List ℕ) (f₁ f₂ : Fed) → length out₁ ≡ length out → length out₂ ≡ length out
       → Feeds r b b₁ mem mem₁ kept kept₁ piece out out₁ f₁ → Feeds r b b₂ mem mem₂ kept kept₂ piece out out₂ f₂
       → (f₁ .written ≡ f₂ .written)

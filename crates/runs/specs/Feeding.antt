@@ -10,9 +10,9 @@ use Rattle.trace.specs.Totals.{noTotals}
 use Rattle.trace.specs.Trace.{most}
 use Rattle.trace.specs.Pieces.{Run, after, enough, ends, lastLine, finished, room, Taken, taking}
 use Rattle.printing.specs.Puts.{Puts}
-use Rattle.runs.specs.declared.run.Run.{Run as RunOf}
-use Rattle.runs.specs.declared.run.Ended.{Ended}
-use Rattle.runs.specs.declared.run.Fed.{Fed}
+use Rattle.runs.specs.declared.Run.{Run as RunOf}
+use Rattle.runs.specs.declared.Ended.{Ended}
+use Rattle.runs.specs.declared.Fed.{Fed}
 
 -- what is taken in all where n bytes were taken before, of which o was printed
 abbrev pub ahead : List ℕ → ℕ → Taken → Taken

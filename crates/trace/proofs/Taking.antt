@@ -1,18 +1,18 @@
--- What is taken of a piece into lent bytes is a run over a start of it, that ends only where the room or the lines do: byte by byte, as it is defined. So calls one
--- after the other print the output of all that they took.
+-- What is taken of a piece into lent bytes is a run over a start of it, that ends only where the room or the lines do: byte by byte, as it is defined. So
+-- portions one after the other print the output of all that was taken.
 use Prim.Native.Nat.{ℕ, _-_}
 use mathlib.Core.Path.{_≡_, refl, ap, sym, _∙_}
 use mathlib.Core.Bool.{true, true≢false}
-use mathlib.Core.List.{List, [], _∷_, _++_}
+use mathlib.Core.List.{List, [], _∷_, _++_, append-nil}
 use native.Mathlib.Omega.{arith}
 use native.Mathlib.Nat.{sub-zero, sub-add-eq}
 use lib.ListN.{length, take, length-append}
 use borrow.Author.Tests.{le-ltb}
 use Rattle.rules.proofs.BoolLaws.{either}
-use Rattle.trace.specs.Pieces.{Run, begun, Step, byte, bytes, after, finished, room, Taken, isFull, onward, taking}
-use Rattle.trace.specs.Claims.{Part, Takes, Call, called, InCalls}
-use Rattle.trace.proofs.RunLaws.{bytes-append}
-use Rattle.trace.proofs.Whole.{whole}
+use Rattle.trace.specs.Pieces.{Run, begun, Step, isOver, byte, bytes, after, room, Taken, isFull, onward, taking}
+use Rattle.trace.specs.Claims.{Part, Takes, Portion, Portions, portions, InPortions, InPortionsOver}
+use Rattle.trace.proofs.RunLaws.{bytes-append, over}
+use Rattle.trace.proofs.Whole.{ended, whole}
 
 module _ (left : ℕ) (r : Run) (b : ℕ) (bs : List ℕ) where
   none : isFull left r ≡ true → Part left r (b ∷ bs) (record { step = record { out = []; run = r }; taken = 0 })
@@ -41,15 +41,27 @@ takes left r [] = record { start = refl; within = omega arith; some = λ e o p. 
 takes left r (b ∷ bs) =
     either (Part left r (b ∷ bs)) (isFull left r) _ _ (none left r b bs) (λ h. one-more left r b bs _ (takes _ (byte r b .run) bs))
 
--- ---- calls, one after the other, are a run over all that they took
-called-bytes : (r : Run) (cs : List Call) → _≡_ {A = Step} (record { out = called r cs .out; run = called r cs .run }) (bytes r (called r cs .took))
+-- ---- portions, one after the other, are a run over all that was taken
+portions-bytes : (r : Run) (ps : List Portion) → _≡_ {A = Step} (record { out = portions r ps .out; run = portions r ps .run }) (bytes r (portions r ps .took))
 unfolding bytes
-called-bytes r [] = refl
-called-bytes r (c ∷ cs) =
-    let t : Taken = taking (c .lent) r (c .piece) in
-    ap (after (t .step .out)) (called-bytes (t .step .run) cs)
-    ∙ ap (λ (s : Step). after (s .out) (bytes (s .run) (called (t .step .run) cs .took))) (takes (c .lent) r (c .piece) .start)
-    ∙ sym (bytes-append r (take (t .taken) (c .piece)) (called (t .step .run) cs .took))
+portions-bytes r [] = refl
+portions-bytes r (p ∷ ps) =
+    let t : Taken = taking (p .lent) r (p .piece) in
+    ap (after (t .step .out)) (portions-bytes (t .step .run) ps)
+    ∙ ap (λ (s : Step). after (s .out) (bytes (s .run) (portions (t .step .run) ps .took))) (takes (p .lent) r (p .piece) .start)
+    ∙ sym (bytes-append r (take (t .taken) (p .piece)) (portions (t .step .run) ps .took))
 
-pub in-calls : InCalls
-in-calls cs = ap (λ (s : Step). s .out ++ finished (s .run)) (called-bytes begun cs) ∙ whole (called begun cs .took)
+pub in-portions : InPortions
+in-portions ps = ap ended (portions-bytes begun ps) ∙ whole (portions begun ps .took)
+
+-- after the last line that is read, what follows adds nothing
+over-adds : (r : Run) (o more : List ℕ) → isOver r ≡ true → after o (bytes r more) ≡ record { out = o; run = r }
+over-adds r o more h = ap (after o) (over r more h) ∙ ap (λ (l : List ℕ). record { out = l; run = r }) (append-nil o)
+
+pub in-portions-over : InPortionsOver
+in-portions-over ps more h =
+    let p : Portions = portions begun ps in
+    ap ended (sym (over-adds (p .run) (p .out) more h)
+    ∙ ap (λ (s : Step). after (s .out) (bytes (s .run) more)) (portions-bytes begun ps)
+    ∙ sym (bytes-append begun (p .took) more))
+    ∙ whole (p .took ++ more)

@@ -77,7 +77,7 @@ record Keeps (r : Run) (g : List ℕ) (k : ℕ) : Type 0 where
   lines : r .lines + k ≡ most
 
 -- all that is printed where the input ends after a step
-abbrev ended : Step → List ℕ
+abbrev pub ended : Step → List ℕ
 ended s = s .out ++ finished (s .run)
 
 is-over : (r : Run) → r .lines + 0 ≡ most → isOver r ≡ true

@@ -67,26 +67,31 @@ Fits = (left : ℕ) (r : Run) (p : List ℕ) → length (taking left r p .step .
 abbrev pub Over : Type 0
 Over = (r : Run) (p : List ℕ) → isOver r ≡ true → bytes r p ≡ record { out = []; run = r }
 
--- ---- calls, one after the other
+-- ---- portions, one after the other
 -- a piece, and how many bytes are lent for what it prints
-pub record Call : Type 0 where
+pub record Portion : Type 0 where
   pub piece : List ℕ
   pub lent : ℕ
 
--- what calls took of their pieces in all, what they printed, and the run that they left
-pub record Called : Type 0 where
+-- what was taken of the pieces in all, what was printed, and the run that is left
+pub record Portions : Type 0 where
   pub took : List ℕ
   pub out : List ℕ
   pub run : Run
 
 -- each from the run that the one before left
-abbrev pub called : Run → List Call → Called
-called r [] = record { took = []; out = []; run = r }
-called r (c ∷ cs) =
-    let t : Taken = taking (c .lent) r (c .piece) in
-    let rest : Called = called (t .step .run) cs in
-    record { took = take (t .taken) (c .piece) ++ rest .took; out = t .step .out ++ rest .out; run = rest .run }
+abbrev pub portions : Run → List Portion → Portions
+portions r [] = record { took = []; out = []; run = r }
+portions r (p ∷ ps) =
+    let t : Taken = taking (p .lent) r (p .piece) in
+    let rest : Portions = portions (t .step .run) ps in
+    record { took = take (t .taken) (p .piece) ++ rest .took; out = t .step .out ++ rest .out; run = rest .run }
 
 -- whatever the pieces and the room are, what is printed in all is the output of all that was taken
-abbrev pub InCalls : Type 0
-InCalls = (cs : List Call) → called begun cs .out ++ finished (called begun cs .run) ≡ output (called begun cs .took)
+abbrev pub InPortions : Type 0
+InPortions = (ps : List Portion) → portions begun ps .out ++ finished (portions begun ps .run) ≡ output (portions begun ps .took)
+
+-- and of an input of which more follows, once the last line was read that is
+abbrev pub InPortionsOver : Type 0
+InPortionsOver = (ps : List Portion) (more : List ℕ) → isOver (portions begun ps .run) ≡ true
+    → portions begun ps .out ++ finished (portions begun ps .run) ≡ output (portions begun ps .took ++ more)
