@@ -6,6 +6,7 @@
 # What the C side builds stands under target/, which `rt ci` removes.
 HOST := target/host
 ARCHIVE := target/staticlib/libpastrulow.a
+PAGE_ARCHIVE := target/staticlib/libpage_test.a
 REPLAY := target/bin/replay
 
 # What replay is run over: the traces that were written by hand, the recorded sequences as one, and random ones, by their seeds.
@@ -35,9 +36,9 @@ VERSION := $(shell sed -n 's/^.define PASTRULOW_VERSION UINT64_C(\([0-9]*\))$$/\
 test: c-tests
 	@rt ci
 
-c-tests: tools $(addprefix $(HOST)/,demo demo-c++ demo-installed demo-later header header-bytes trial lengths differential \
-    journal vectors_bochs bochs.txt vectors_sequences sequences.txt vectors_linux linux-guest.bin linux-guest.txt twin) \
-    $(REPLAY) $(TRACES)
+c-tests: tools $(addprefix $(HOST)/,demo demo-c++ demo-installed demo-later header header-bytes trial lengths page \
+    differential journal vectors_bochs bochs.txt vectors_sequences sequences.txt vectors_linux linux-guest.bin \
+    linux-guest.txt guest-high.bin guest-high.txt twin) $(REPLAY) $(TRACES)
 	$(RUN) $(HOST)/demo >$(HOST)/demo.out
 	$(RUN) $(HOST)/demo-c++ >$(HOST)/demo-c++.out
 	cmp $(HOST)/demo.out $(HOST)/demo-c++.out
@@ -49,9 +50,11 @@ c-tests: tools $(addprefix $(HOST)/,demo demo-c++ demo-installed demo-later head
 	$(RUN) $(HOST)/header-bytes
 	$(RUN) $(HOST)/trial
 	$(RUN) $(HOST)/lengths
+	$(RUN) $(HOST)/page
 	$(RUN) $(HOST)/vectors_bochs $(HOST)/bochs.txt
 	$(RUN) $(HOST)/vectors_sequences $(HOST)/sequences.txt
 	$(RUN) $(HOST)/vectors_linux $(HOST)/linux-guest.bin $(HOST)/linux-guest.txt
+	$(RUN) $(HOST)/vectors_linux $(HOST)/guest-high.bin $(HOST)/guest-high.txt
 	$(RUN) $(HOST)/differential
 	$(RUN) $(HOST)/journal
 	sh host/replay.sh $(HOST) "$(RUN) $(REPLAY)" "$(RUN) $(HOST)/twin" $(TRACES)
@@ -92,6 +95,10 @@ CRATES := crates.txt $(shell find crates -name '*.rt' -o -name '*.antt')
 $(ARCHIVE): $(CRATES)
 	@sh host/prove.sh staticlib pastrulow
 
+# What page.c holds the header's function to, as an archive of its own: the library has it for callers in Rattle alone.
+$(PAGE_ARCHIVE): $(CRATES)
+	@sh host/prove.sh staticlib page_test
+
 $(REPLAY): $(CRATES)
 	@sh host/prove.sh check replay
 
@@ -99,8 +106,8 @@ $(HOST):
 	@mkdir -p $(HOST)
 
 TEST := host/tests
-MODEL := $(addprefix $(TEST)/model_,image.c walk.c buffer.c calls.c translate.c many.c)
-DIFFERENTIAL := $(addprefix $(TEST)/,differential.c call.c call_sides.c lent.c guest.c random.c events.c) $(MODEL)
+MODEL := $(addprefix $(TEST)/model_,image.c memory.c walk.c buffer.c calls.c translate.c many.c)
+DIFFERENTIAL := $(addprefix $(TEST)/,differential.c call.c call_sides.c lent.c sparse.c guest.c random.c events.c) $(MODEL)
 TWIN := $(addprefix $(TEST)/,twin.c events.c) $(MODEL)
 MAKING := $(addprefix $(TEST)/,traces.c call.c guest.c random.c)
 JOURNAL := $(addprefix $(TEST)/,journal.c journal_history.c journal_made.c model_journal.c model_history.c model_image.c \
@@ -141,11 +148,17 @@ $(HOST)/header $(HOST)/header-bytes: $(TEST)/header.c $(TEST)/check.c $(TEST)/ma
 $(HOST)/trial: $(TEST)/trial.c $(TEST)/machine.c $(HEADERS) $(ARCHIVE) | $(HOST)
 	$(C) $(CFLAGS) -static -o $@ $(TEST)/trial.c $(TEST)/machine.c $(ARCHIVE)
 
-$(HOST)/lengths: $(TEST)/lengths.c $(TEST)/check.c $(HEADERS) $(ARCHIVE) | $(HOST)
-	$(C) $(CFLAGS) -static -o $@ $(TEST)/lengths.c $(TEST)/check.c $(ARCHIVE)
+LENGTHS := $(addprefix $(TEST)/,lengths.c check.c machine.c sparse.c)
+$(HOST)/lengths: $(LENGTHS) $(HEADERS) $(ARCHIVE) | $(HOST)
+	$(C) $(CFLAGS) -static -o $@ $(LENGTHS) $(ARCHIVE)
 
-$(HOST)/vectors_%: $(TEST)/vectors_%.c $(TEST)/machine.c $(TEST)/vectors.c $(HEADERS) $(ARCHIVE) | $(HOST)
-	$(C) $(CFLAGS) -static -o $@ $(TEST)/vectors_$*.c $(TEST)/machine.c $(TEST)/vectors.c $(ARCHIVE)
+PAGE := $(addprefix $(TEST)/,page.c check.c random.c sparse.c)
+$(HOST)/page: $(PAGE) $(HEADERS) $(PAGE_ARCHIVE) | $(HOST)
+	$(C) $(CFLAGS) -static -o $@ $(PAGE) $(PAGE_ARCHIVE)
+
+VECTORS := $(addprefix $(TEST)/,machine.c vectors.c sparse.c)
+$(HOST)/vectors_%: $(TEST)/vectors_%.c $(VECTORS) $(HEADERS) $(ARCHIVE) | $(HOST)
+	$(C) $(CFLAGS) -static -o $@ $(TEST)/vectors_$*.c $(VECTORS) $(ARCHIVE)
 
 $(HOST)/differential: $(DIFFERENTIAL) $(HEADERS) $(ARCHIVE) | $(HOST)
 	$(C) $(CFLAGS) -static -o $@ $(DIFFERENTIAL) $(ARCHIVE)

@@ -70,6 +70,13 @@ PART uint64_t answer_words(uint8_t *answer, uint64_t kind, uint64_t value, uint6
     return none();
 }
 
+/* From the data word of a slot that holds the page. */
+PART uint64_t answer_held(uint8_t *answer, uint64_t data, uint64_t address, unsigned length)
+{
+    uint64_t base = data & (BIT(52) - BIT(length)), offset = address & (BIT(length) - 1);
+    return answer_words(answer, PASTRULOW_ADDRESS, base | offset, BIT(length), 0);
+}
+
 PART uint64_t answer_done(uint8_t *answer)
 {
     return answer_words(answer, PASTRULOW_DONE, 0, 0, 0);
@@ -79,6 +86,25 @@ APART uint64_t refuse(uint8_t *answer, uint64_t number)
 {
     answer_words(answer, PASTRULOW_REFUSED, number, 0, 0);
     return number;
+}
+
+/* What is asked goes along in the record, until the answer is written over it. */
+PART uint8_t *ask(uint8_t *answer, uint64_t kind, uint64_t address)
+{
+    PIN(kind); /* else the compiler moves both through a vector register */
+    store(answer, kind);
+    store(answer + 8, address);
+    return answer;
+}
+
+PART uint64_t asked_kind(const uint8_t *answer)
+{
+    return load(answer);
+}
+
+PART uint64_t asked_address(const uint8_t *answer)
+{
+    return load(answer + 8);
 }
 
 /* 16 * blocks bytes: the first and the last 16 at any alignment, and aligned blocks that reach from the one into the other. */
@@ -97,6 +123,12 @@ PART bool image_fits(const uint8_t *image)
 {
     return LIKELY(load(image) - 36 <= 16) &&
            LIKELY((load(image + FLAGS_AT) >> 7 | load(image + VICTIMS_AT) >> 50) == 0) && LIKELY(all_zero(image + REST_AT, 26));
+}
+
+/* Rotated by a page's bits, a length that is not whole pages is above every limit. */
+PART bool memory_fits(size_t low_len, size_t high_len)
+{
+    return (low_len >> 12 | low_len << 52) <= PASTRULOW_LOW_MAX >> 12 && high_len % PASTRULOW_PAGE_BYTES == 0;
 }
 
 PART bool canonical(uint64_t address)
@@ -133,14 +165,19 @@ PART uint64_t page_of(uint64_t address, unsigned length)
     return length == 12 ? address << 2 & PAGE_FIELD : address >> (length - 14) & (BIT(62 - length) - BIT(14));
 }
 
-/* A slot of this page may be another PCID's. */
+/* A slot of this page may be another PCID's. Given are the bits in which its tag differs from one of the current PCID that is
+   not global. */
+PART bool is_ours_by(uint64_t difference)
+{
+    return LIKELY((difference & PCID_FIELD) == 0) || (difference & GLOBAL) != 0;
+}
+
+/* The same by its tag. */
 PART bool is_ours(const uint8_t *image, uint64_t tag)
 {
-    if (tag & GLOBAL)
-        return true;
-    if (image[FLAGS_AT] & PASTRULOW_PCIDE)
+    if (UNLIKELY(image[FLAGS_AT] & PASTRULOW_PCIDE))
         tag ^= load(image + CR3_AT) << 2;
-    return (tag & PCID_FIELD) == 0;
+    return is_ours_by(tag);
 }
 
 /* The same of a slot whose tag is read again, so that the search for it need not keep it. */
@@ -148,12 +185,6 @@ PART bool slot_is_ours(const uint8_t *image, const uint8_t **slot)
 {
     PIN(*slot);
     return is_ours(image, load(*slot));
-}
-
-/* The same by the bits in which its tag differs from one of the current PCID that is not global. */
-PART bool is_ours_by(uint64_t difference)
-{
-    return LIKELY((difference & PCID_FIELD) == 0) || (difference & GLOBAL) != 0;
 }
 
 PART uint8_t *find_ours(uint8_t *image, uint64_t address, unsigned length)

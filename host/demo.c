@@ -1,7 +1,7 @@
 /*
- * An example host: the trial guest of document 01, a few accesses, an INVLPG, a CR3 switch, a saved state with PCIDs, many
- * addresses in one call, and a user page under SMEP and SMAP; and a journal of the faults. It may be copied; it compiles as C11
- * and as C++17. Link it with libpastrulow.a.
+ * An example host: the trial guest of document 01, with RAM above 4 GiB too; a few accesses, a byte of guest memory, an INVLPG,
+ * a CR3 switch, a saved state with PCIDs, many addresses in one call, and a user page under SMEP and SMAP; and a journal of the
+ * faults. It may be copied; it compiles as C11 and as C++17. Link it with libpastrulow.a.
  */
 #include <inttypes.h>
 #include <stdio.h>
@@ -17,17 +17,25 @@
 
 /* All that a host keeps for one processor. */
 static uint8_t image[PASTRULOW_IMAGE_BYTES];
-static uint8_t memory[6 * PASTRULOW_PAGE_BYTES];
+static uint8_t low[6 * PASTRULOW_PAGE_BYTES], high[2 * PASTRULOW_PAGE_BYTES]; /* RAM from address 0 on, and from 4 GiB on */
 static uint8_t record[PASTRULOW_ANSWER_BYTES];
 static uint8_t journal[PASTRULOW_JOURNAL_BYTES];
 static uint64_t ac; /* the processor's AC flag, which STAC sets and CLAC clears */
 
-static void store(uint64_t physical, uint64_t word)
+/* The byte at a physical address, or NULL where the machine has no RAM. */
+static uint8_t *ram(uint64_t physical)
 {
-    pastrulow_put_word(memory + physical, word);
+    uint8_t *page = pastrulow_page(low, sizeof low, high, sizeof high, physical);
+    return page == NULL ? NULL : page + physical % PASTRULOW_PAGE_BYTES;
 }
 
-/* Four levels of tables at 0x1000, 0x2000, 0x3000, 0x4000; data pages at 0x5000 and beyond guest memory. */
+static void store(uint64_t physical, uint64_t word)
+{
+    pastrulow_put_word(ram(physical), word);
+}
+
+/* Four levels of tables at 0x1000, 0x2000, 0x3000, 0x4000; data pages at 0x5000 and where there is no RAM. Above 4 GiB one more
+   table of level 1, and its page. */
 static void write_tables(void)
 {
     store(0x1000, 0x2007);                         /* level 4 */
@@ -35,11 +43,13 @@ static void write_tables(void)
     store(0x2008, 0x40000083);                     /* a 1 GiB page, supervisor's */
     store(0x3000, 0x4007);                         /* level 2 */
     store(0x3008, 0x600087);                       /* a 2 MiB page */
+    store(0x3010, UINT64_C(0x100000007));          /* the table above 4 GiB */
     store(0x4000, 0x5003);                         /* level 1: a supervisor's page */
     store(0x4008, 0x5005);                         /* read-only */
     store(0x4010, UINT64_C(0x8000000000005007));   /* not executable */
     store(0x4020, UINT64_C(0x10000005007));        /* a reserved bit, as the physical width is 40 */
     store(0x4028, 0x5107);                         /* global */
+    store(UINT64_C(0x100000000), UINT64_C(0x100001007)); /* its page */
 }
 
 /* A refusal means that the host has made a mistake: the header says which. */
@@ -93,7 +103,7 @@ static void report_fault(uint64_t address, uint64_t code)
 
 static struct pastrulow_answer translate(uint64_t kind, uint64_t address)
 {
-    pastrulow_translate(image, sizeof image, memory, sizeof memory, kind, address, ac, record, sizeof record);
+    pastrulow_translate(image, sizeof image, low, sizeof low, high, sizeof high, kind, address, ac, record, sizeof record);
     struct pastrulow_answer answer = pastrulow_read_answer(record);
     if (answer.kind == PASTRULOW_FAULT)
         report_fault(address, answer.value);
@@ -131,9 +141,11 @@ static void show_answer(uint64_t kind, uint64_t address, struct pastrulow_answer
            answer.read);
 }
 
-static void access_memory(uint64_t kind, uint64_t address)
+static struct pastrulow_answer access_memory(uint64_t kind, uint64_t address)
 {
-    show_answer(kind, address, translate(kind, address));
+    struct pastrulow_answer answer = translate(kind, address);
+    show_answer(kind, address, answer);
+    return answer;
 }
 
 /* A guest that makes one access again and again, as if it waited for the page. */
@@ -162,6 +174,35 @@ static void show_accesses(void)
     access_memory(PASTRULOW_READ, 0x4000);
     access_memory(PASTRULOW_READ, UINT64_C(0x800000000000));
     retry_access(PASTRULOW_USER_READ, 0x3abc); /* as at 0x3000: the same page, code and root */
+}
+
+static void write_byte(uint64_t address, uint8_t value)
+{
+    struct pastrulow_answer answer = access_memory(PASTRULOW_WRITE, address);
+    uint8_t *byte = answer.kind == PASTRULOW_ADDRESS ? ram(answer.value) : NULL;
+    if (byte != NULL)
+        *byte = value;
+}
+
+/* Where there is no RAM a host has its devices, or nothing. */
+static void read_byte(uint64_t address)
+{
+    struct pastrulow_answer answer = access_memory(PASTRULOW_READ, address);
+    if (answer.kind != PASTRULOW_ADDRESS)
+        return;
+    const uint8_t *byte = ram(answer.value);
+    if (byte != NULL)
+        printf("the byte is 0x%02x\n", *byte);
+    else
+        printf("there is no RAM\n");
+}
+
+static void show_bytes(void)
+{
+    printf("a byte above 4 GiB is written and read, and then one in the hole below\n");
+    write_byte(0x400123, 0x5a);
+    read_byte(0x400123);
+    read_byte(0x40000010);
 }
 
 static void show_invlpg(void)
@@ -214,7 +255,8 @@ static void show_many(void)
 {
     printf("a disassembler asks for %u addresses in one call\n", (unsigned)ASKED);
     put_pairs();
-    must(pastrulow_translate_many(image, sizeof image, memory, sizeof memory, pairs, sizeof pairs, answers, sizeof answers),
+    must(pastrulow_translate_many(image, sizeof image, low, sizeof low, high, sizeof high, pairs, sizeof pairs, answers,
+                                  sizeof answers),
          "translate many");
     for (size_t i = 0; i < ASKED; i++)
         show_answer(PASTRULOW_FETCH, asked[i], pastrulow_read_answer(answers + PASTRULOW_ANSWER_BYTES * i));
@@ -262,6 +304,7 @@ int main(void)
     load_state(40, FLAGS, 0x1000);
     printf("%-18s  %-10s  %-24s  %10s  %s\n", "address", "kind", "result", "page size", "entries read");
     show_accesses();
+    show_bytes();
     show_invlpg();
     show_cr3_switch();
     show_saved_state();

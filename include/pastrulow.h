@@ -11,8 +11,8 @@
  * What a host owes:
  *   - each pointer is good for as many bytes as the length beside it says, to read and, pairs aside, to write; a pointer may be
  *     NULL if its length is 0; no alignment is asked for;
- *   - the slices of one call (image, memory, pairs, answer or answers) do not overlap; nor does a journal overlap what another
- *     call is lent at the same time;
+ *   - the slices of one call (image, low, high, pairs, answer or answers) do not overlap; nor does a journal overlap what
+ *     another call is lent at the same time;
  *   - an image, an answer, the answers of many and a journal are each lent to one call at a time, and guest memory to one
  *     translate or translate_many at a time, which reads table entries there and sets their accessed and dirty bits by plain
  *     loads and stores. Where several processors share guest memory, each with its own image, the host needs a lock of its own
@@ -43,15 +43,25 @@ extern "C" {
  *   2: a fault's code has PASTRULOW_CODE_FETCH only while NXE is on; in version 1 every fetch had it
  *   3: translate takes AC, after the address; SMEP and SMAP are flags, and with SMEP on a fetch's fault has
  *      PASTRULOW_CODE_FETCH too
+ *   4: translate and translate_many take guest memory as two slices, low and high; low has a limit (refusal 4)
  */
-#define PASTRULOW_VERSION UINT64_C(3)
+#define PASTRULOW_VERSION UINT64_C(4)
 uint64_t pastrulow_version(void);
 
-/* Lengths in bytes. Guest memory is lent in whole pages, from physical address 0 up. */
+/* Lengths in bytes. */
 #define PASTRULOW_IMAGE_BYTES 2048
 #define PASTRULOW_ANSWER_BYTES 32
 #define PASTRULOW_PAGE_BYTES 4096
 #define PASTRULOW_PAIR_BYTES 16
+
+/*
+ * Guest memory is lent as two slices of whole pages: low, from physical address 0 up, and high, from 4 GiB up. A machine
+ * without RAM above 4 GiB lends NULL and 0 as high. Between low's end and 4 GiB lies the hole, where a machine has devices and
+ * no RAM. An address in the hole, or past high's end, is outside guest memory: a table entry there reads as all ones, and is
+ * not marked.
+ */
+#define PASTRULOW_LOW_MAX UINT64_C(0xB0000000)    /* bytes of low, at most; high has no limit */
+#define PASTRULOW_HIGH_BASE UINT64_C(0x100000000) /* the physical address of high's first byte */
 
 /* The pairs that translate_many takes, at most. */
 #define PASTRULOW_PAIRS_MAX 64
@@ -111,7 +121,7 @@ uint64_t pastrulow_version(void);
                                                  others: the image holds such a width, a flag that does not exist, a bit after
                                                  the victim numbers, or a byte other than 0 after the slots */
 #define PASTRULOW_REFUSED_KIND UINT64_C(3)    /* translate: no such access kind */
-#define PASTRULOW_REFUSED_MEMORY UINT64_C(4)  /* translate: guest memory is not whole pages */
+#define PASTRULOW_REFUSED_MEMORY UINT64_C(4)  /* translate: low or high is not whole pages, or low is longer than its limit */
 #define PASTRULOW_REFUSED_ADDRESS UINT64_C(5) /* translate: not canonical with paging on; above 32 bits with paging off */
 #define PASTRULOW_REFUSED_CR3 UINT64_C(6)     /* CR3 write: a bit from the width up to 62, or bit 63 with PCIDE off */
 #define PASTRULOW_REFUSED_MODE UINT64_C(7)    /* mode write: no such flag; PCIDE without PG; PCIDE turned on while the low 12
@@ -130,8 +140,8 @@ uint64_t pastrulow_start(uint8_t *image, size_t image_len, uint64_t width, uint8
  * for only by a supervisor's read or write while SMAP is on. A page is a user page if each entry that leads to it says so.
  * Which rights are needed goes by the flags and by AC of now, of a page that is held too.
  */
-uint64_t pastrulow_translate(uint8_t *image, size_t image_len, uint8_t *memory, size_t memory_len, uint64_t kind,
-                             uint64_t address, uint64_t ac, uint8_t *answer, size_t answer_len);
+uint64_t pastrulow_translate(uint8_t *image, size_t image_len, uint8_t *low, size_t low_len, uint8_t *high, size_t high_len,
+                             uint64_t kind, uint64_t address, uint64_t ac, uint8_t *answer, size_t answer_len);
 
 /*
  * Translates up to 64 addresses in one call. The pairs, which pastrulow_put_pair writes, are judged one after the other:
@@ -142,8 +152,9 @@ uint64_t pastrulow_translate(uint8_t *image, size_t image_len, uint8_t *memory, 
  * The call's own number is 10, and then nothing is written, or 0, whatever the records say: refusals from 2 on stand in the
  * records, and the pairs after a refused one are judged all the same. No pairs and no answers are no refusal.
  */
-uint64_t pastrulow_translate_many(uint8_t *image, size_t image_len, uint8_t *memory, size_t memory_len, const uint8_t *pairs,
-                                  size_t pairs_len, uint8_t *answers, size_t answers_len);
+uint64_t pastrulow_translate_many(uint8_t *image, size_t image_len, uint8_t *low, size_t low_len, uint8_t *high,
+                                  size_t high_len, const uint8_t *pairs, size_t pairs_len, uint8_t *answers,
+                                  size_t answers_len);
 
 /* The INVLPG instruction: drops what the buffer holds for this address under the current PCID, global pages too; of an address
    that is not canonical nothing, which is no refusal. */
@@ -234,6 +245,24 @@ static inline uint64_t pastrulow_root(const uint8_t *image)
     uint64_t width = pastrulow_word(image), cr3 = pastrulow_word(image + 16);
     uint64_t below = width < 64 ? (UINT64_C(1) << width) - 1 : UINT64_MAX;
     return cr3 & below & ~UINT64_C(0xFFF);
+}
+
+/*
+ * The first byte of the 4 KiB page of guest memory that holds a physical address, such as translate answers; NULL if the
+ * address is outside guest memory, or if translate would refuse this memory (refusal 4). Unless it is NULL, the address's own
+ * byte is the one at physical % PASTRULOW_PAGE_BYTES from there. A guest's larger page may lie in guest memory in part only: a
+ * host asks for each 4 KiB of it.
+ */
+static inline uint8_t *pastrulow_page(uint8_t *low, size_t low_len, uint8_t *high, size_t high_len, uint64_t physical)
+{
+    uint64_t within = physical % PASTRULOW_PAGE_BYTES;
+    if (low_len % PASTRULOW_PAGE_BYTES != 0 || high_len % PASTRULOW_PAGE_BYTES != 0 || low_len > PASTRULOW_LOW_MAX)
+        return NULL;
+    if (physical < low_len)
+        return low + (physical - within);
+    if (physical >= PASTRULOW_HIGH_BASE && physical - PASTRULOW_HIGH_BASE < high_len)
+        return high + (physical - PASTRULOW_HIGH_BASE - within);
+    return NULL;
 }
 
 /*

@@ -120,15 +120,37 @@ static void random_numbers(struct random *random, const struct guest *guest, str
     }
 }
 
+/* Mostly the slice whole, if the machine has it. */
+static size_t random_slice(struct random *random, bool there)
+{
+    size_t length = there ? GUEST_SLICE : 0;
+    if (random_percent(random, 5))
+        length = 4096 * random_below(random, GUEST_PAGES_MAX + 1);
+    if (random_percent(random, 1))
+        length = wrong_length(random, length);
+    return length;
+}
+
+/* For a guest with high; now and then a slice is far longer than the guest's own. */
+static void random_high(struct random *random, struct call *call)
+{
+    static const size_t far[] = {PASTRULOW_LOW_MAX, PASTRULOW_LOW_MAX + 4096, LENT_FAR};
+    call->high_len = random_slice(random, true);
+    if (random_percent(random, 3))
+        call->low_len = far[random_below(random, sizeof far / sizeof *far)];
+    if (random_percent(random, 3))
+        call->high_len = far[random_below(random, sizeof far / sizeof *far)];
+    call->low_null = call->low_len == 0 && random_percent(random, 50);
+    call->high_null = call->high_len == 0 && random_percent(random, 50);
+}
+
 struct call call_make(struct random *random, const struct guest *guest)
 {
-    struct call call = {.name = random_name(random), .image_len = LENT_IMAGE, .answer_len = LENT_ANSWER};
+    struct call call = {.name = random_name(random), .image_len = LENT_IMAGE, .answer_len = LENT_ANSWER, .high_null = true};
     random_numbers(random, guest, &call);
-    call.memory_len = LENT_MEMORY;
-    if (random_percent(random, 5))
-        call.memory_len = 4096 * random_below(random, GUEST_PAGES_MAX + 1);
-    if (random_percent(random, 1))
-        call.memory_len = wrong_length(random, call.memory_len);
+    call.low_len = random_slice(random, guest->low);
+    if (guest->high)
+        random_high(random, &call);
     if (random_percent(random, 1))
         call.image_len = wrong_length(random, LENT_IMAGE);
     if (random_percent(random, call.name == TRANSLATE_MANY ? 8 : 1))
@@ -139,7 +161,7 @@ struct call call_make(struct random *random, const struct guest *guest)
 struct call call_begin(const struct guest *guest, unsigned step)
 {
     static const enum call_name names[3] = {START, WRITE_MODE, WRITE_CR3};
-    const uint64_t numbers[3] = {guest->width, guest->flags, guest->pcids[1]};
+    const uint64_t numbers[3] = {guest->width, guest->flags, guest->places[0] | guest->pcids[1]};
     struct call call = {.name = names[step], .numbers = {numbers[step]}, .image_len = LENT_IMAGE, .answer_len = LENT_ANSWER};
     return call;
 }
@@ -152,9 +174,9 @@ size_t call_pairs(const struct call *call)
 void call_print(const struct call *call)
 {
     static const char *const names[] = {"start", "translate", "translate_many", "invlpg", "invpcid", "write_cr3", "write_mode"};
-    printf("  call %s 0x%" PRIx64 " 0x%" PRIx64 " 0x%" PRIx64 ", image %zu, memory %zu, pairs %zu, answer %zu bytes\n",
-           names[call->name], call->numbers[0], call->numbers[1], call->numbers[2], call->image_len, call->memory_len,
-           call->pairs_len, call->answer_len);
+    printf("  call %s 0x%" PRIx64 " 0x%" PRIx64 " 0x%" PRIx64 ", image %zu, low %zu, high %zu, pairs %zu, answer %zu bytes\n",
+           names[call->name], call->numbers[0], call->numbers[1], call->numbers[2], call->image_len, call->low_len,
+           call->high_len, call->pairs_len, call->answer_len);
     for (size_t i = 0; i < call_pairs(call); i++)
         printf("  pair %zu: 0x%" PRIx64 " 0x%" PRIx64 "\n", i, pastrulow_word(call->pairs + LENT_PAIR * i),
                pastrulow_word(call->pairs + LENT_PAIR * i + 8));

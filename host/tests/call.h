@@ -11,7 +11,8 @@ struct call {
     enum call_name name;
     uint64_t numbers[3]; /* width; kind, address, AC; none; address; type, PCID, address; value; flags */
     uint8_t pairs[LENT_PAIRS];
-    size_t image_len, memory_len, pairs_len, answer_len;
+    size_t image_len, low_len, high_len, pairs_len, answer_len;
+    bool low_null, high_null; /* no bytes, lent as NULL */
 };
 
 /* A call with mostly fitting arguments; now and then each argument and each length is wrong. */

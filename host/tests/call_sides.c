@@ -12,21 +12,31 @@ void call_lend(const struct call *call, struct lent *lent)
         memcpy(lent->bytes + lent->pairs, call->pairs, LENT_PAIRS);
 }
 
+static uint8_t *low_of(const struct call *call, struct lent *lent)
+{
+    return call->low_null ? NULL : lent_low(lent, call->low_len);
+}
+
+static uint8_t *high_of(const struct call *call, struct lent *lent)
+{
+    return call->high_null ? NULL : lent_high(lent, call->high_len);
+}
+
 uint64_t call_door(const struct call *call, struct lent *lent)
 {
     uint8_t *image = lent->bytes + lent->image;
-    uint8_t *memory = lent->bytes + lent->memory;
+    uint8_t *low = low_of(call, lent), *high = high_of(call, lent);
     uint8_t *answer = lent->bytes + lent->answers;
     const uint64_t *n = call->numbers;
     switch (call->name) {
     case START:
         return pastrulow_start(image, call->image_len, n[0], answer, call->answer_len);
     case TRANSLATE:
-        return pastrulow_translate(image, call->image_len, memory, call->memory_len, n[0], n[1], n[2], answer,
+        return pastrulow_translate(image, call->image_len, low, call->low_len, high, call->high_len, n[0], n[1], n[2], answer,
                                    call->answer_len);
     case TRANSLATE_MANY:
-        return pastrulow_translate_many(image, call->image_len, memory, call->memory_len, lent->bytes + lent->pairs,
-                                        call->pairs_len, answer, call->answer_len);
+        return pastrulow_translate_many(image, call->image_len, low, call->low_len, high, call->high_len,
+                                        lent->bytes + lent->pairs, call->pairs_len, answer, call->answer_len);
     case INVLPG:
         return pastrulow_invlpg(image, call->image_len, n[0], answer, call->answer_len);
     case INVPCID:
@@ -41,17 +51,18 @@ uint64_t call_door(const struct call *call, struct lent *lent)
 uint64_t call_model(const struct call *call, struct lent *lent)
 {
     uint8_t *image = lent->bytes + lent->image;
-    uint8_t *memory = lent->bytes + lent->memory;
+    uint8_t *low = low_of(call, lent), *high = high_of(call, lent);
     uint8_t *answer = lent->bytes + lent->answers;
     const uint64_t *n = call->numbers;
     switch (call->name) {
     case START:
         return model_start(image, call->image_len, n[0], answer, call->answer_len);
     case TRANSLATE:
-        return model_translate(image, call->image_len, memory, call->memory_len, n[0], n[1], n[2], answer, call->answer_len);
+        return model_translate(image, call->image_len, low, call->low_len, high, call->high_len, n[0], n[1], n[2], answer,
+                               call->answer_len);
     case TRANSLATE_MANY:
-        return model_translate_many(image, call->image_len, memory, call->memory_len, lent->bytes + lent->pairs,
-                                    call->pairs_len, answer, call->answer_len);
+        return model_translate_many(image, call->image_len, low, call->low_len, high, call->high_len,
+                                    lent->bytes + lent->pairs, call->pairs_len, answer, call->answer_len);
     case INVLPG:
         return model_invlpg(image, call->image_len, n[0], answer, call->answer_len);
     case INVPCID:

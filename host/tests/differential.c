@@ -1,6 +1,6 @@
 /*
  * The translator's calls, the archive against the model of the paper, on random sequences of them: return, records, image,
- * guest memory and pairs are compared after each call, and the guard bytes around them.
+ * both slices of guest memory and pairs are compared after each call, and the guard bytes around them.
  *
  *     differential [SEED [SEQUENCE [COUNT]]]
  *
@@ -188,9 +188,10 @@ static bool run_sequence(uint64_t seed, uint64_t sequence)
 {
     struct random random = random_start(seed, sequence);
     struct guest guest = guest_make(&random);
+    guest_spread(&random, &guest);
     lent_make(&random, &door_side);
-    guest_tables(&random, &guest, door_side.bytes + door_side.memory);
     model_side = door_side;
+    guest_tables(&random, &guest, put_both_memory);
     begun = 0;
     for (unsigned number = 0; number < STEPS; number++)
         if (!step(&random, &guest)) {

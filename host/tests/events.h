@@ -76,12 +76,39 @@
     X(OUTSIDE_3, "entry outside guest memory, level 3")                               \
     X(OUTSIDE_4, "entry outside guest memory, level 4")                               \
     X(OUTSIDE_PAGE, "page whose entry lies outside guest memory")                     \
+    X(PLACE_LOW_LAST, "entry in low's last page")                                     \
+    X(PLACE_LOW_END, "entry in the page at low's end")                                \
+    X(PLACE_LIMIT_LAST, "entry in low's last page, low at its limit")                 \
+    X(PLACE_LIMIT, "entry in the page at low's end, low at its limit")                \
+    X(PLACE_NO_LOW, "entry in the page at 0, no low lent")                            \
+    X(PLACE_HOLE, "entry in the hole")                                                \
+    X(PLACE_BELOW_HIGH, "entry in the page just below 4 GiB")                         \
+    X(PLACE_HIGH_FIRST, "entry in high's first page")                                 \
+    X(PLACE_HIGH_LAST, "entry in high's last page")                                   \
+    X(PLACE_HIGH_FAR, "entry in high, at 8 GiB or above")                             \
+    X(PLACE_HIGH_END, "entry in the page at high's end")                              \
+    X(PLACE_NO_HIGH, "entry in the page at 4 GiB, no high lent")                      \
+    X(PLACE_BEYOND, "entry above the page at high's end")                             \
+    X(WALK_LOW, "walk to a page, all tables in low")                                  \
+    X(WALK_HIGH, "walk to a page, all tables in high")                                \
+    X(WALK_UP, "walk to a page, once from low to high")                               \
+    X(WALK_DOWN, "walk to a page, once from high to low")                             \
+    X(WALK_UP_AND_DOWN, "walk to a page, from low to high and back")                  \
+    X(WALK_DOWN_AND_UP, "walk to a page, from high to low and back")                  \
     X(ENTRY_TWICE, "successful walk that reads one word at two levels")               \
     X(ACCESSED_UPPER, "accessed bit newly set above the page's entry")                \
     X(ACCESSED_PAGE, "accessed bit newly set in the page's entry")                    \
+    X(ACCESSED_LOW, "accessed bit newly set in low")                                  \
+    X(ACCESSED_HIGH, "accessed bit newly set in high")                                \
     X(DIRTY_4K, "dirty bit newly set, 4 KiB page")                                    \
     X(DIRTY_2M, "dirty bit newly set, 2 MiB page")                                    \
     X(DIRTY_1G, "dirty bit newly set, 1 GiB page")                                    \
+    X(DIRTY_LOW, "dirty bit newly set in low")                                        \
+    X(DIRTY_HIGH, "dirty bit newly set in high")                                      \
+    X(NO_LOW, "translation with no low, lent as NULL")                                \
+    X(NO_HIGH, "translation with no high, lent as NULL")                              \
+    X(LOW_AT_LIMIT, "translation with low at its limit")                              \
+    X(HIGH_ABOVE_LIMIT, "translation with high longer than low may be")               \
     X(PAGING_OFF, "address given with paging off")                                    \
     X(START_1, "start refused 1")                                                     \
     X(START_2_LENGTH, "start refused 2, length")                                      \
@@ -90,7 +117,9 @@
     X(TRANSLATE_1, "translate refused 1")                                             \
     X(TRANSLATE_2, "translate refused 2")                                             \
     X(TRANSLATE_3, "translate refused 3")                                             \
-    X(TRANSLATE_4, "translate refused 4")                                             \
+    X(TRANSLATE_4_LOW, "translate refused 4, low not whole pages")                    \
+    X(TRANSLATE_4_LIMIT, "translate refused 4, low above its limit")                  \
+    X(TRANSLATE_4_HIGH, "translate refused 4, high not whole pages")                  \
     X(TRANSLATE_5_ON, "translate refused 5, paging on")                               \
     X(TRANSLATE_5_OFF, "translate refused 5, paging off")                             \
     X(BATCH_10_RAGGED, "batch refused 10, pair bytes no multiple of 16")              \

@@ -68,17 +68,33 @@ static uint64_t reserved_bit(struct random *random, const struct guest *guest)
     }
 }
 
+/* A page at an end of a slice, inside or out, be that of GUEST_SLICE bytes or far longer; without high only at low's end. */
+static uint64_t edge(struct random *random, const struct guest *guest)
+{
+    static const uint64_t edges[] = {0,
+                                     GUEST_SLICE - 4096,
+                                     GUEST_SLICE,
+                                     PASTRULOW_LOW_MAX - 4096,
+                                     PASTRULOW_LOW_MAX,
+                                     PASTRULOW_HIGH_BASE - 4096,
+                                     PASTRULOW_HIGH_BASE,
+                                     PASTRULOW_HIGH_BASE + GUEST_SLICE - 4096,
+                                     PASTRULOW_HIGH_BASE + GUEST_SLICE,
+                                     2 * PASTRULOW_HIGH_BASE};
+    return guest->high ? edges[random_below(random, sizeof edges / sizeof *edges)] : GUEST_SLICE;
+}
+
 static uint64_t table_or_page(struct random *random, const struct guest *guest, unsigned page)
 {
     unsigned level = guest->layered ? level_of(guest, page) : (unsigned)(1 + random_below(random, 4));
     uint64_t far = low_bits(random_word(random), (unsigned)guest->width) & ~UINT64_C(0xfff);
     if ((level == 3 || level == 2) && random_percent(random, guest->large_often ? 80 : 20))
         return large_page(random, guest, level);
-    if (random_percent(random, 3))
-        return random_percent(random, 50) ? far : UINT64_C(4096) * GUEST_PAGES_MAX;
+    if (random_percent(random, guest->high ? 6 : 3))
+        return random_percent(random, 50) ? far : edge(random, guest);
     if (guest->layered && level == 1)
         return far | (random_word(random) & LARGE);
-    return UINT64_C(4096) * next_page(random, guest, page);
+    return guest->places[next_page(random, guest, page)];
 }
 
 uint64_t guest_entry(struct random *random, const struct guest *guest, unsigned page)
@@ -94,17 +110,14 @@ uint64_t guest_entry(struct random *random, const struct guest *guest, unsigned 
 uint64_t guest_entry_place(struct random *random, const struct guest *guest, unsigned *page)
 {
     *page = (unsigned)random_below(random, guest->pages);
-    return UINT64_C(4096) * *page + 8 * guest->indexes[random_below(random, GUEST_INDEXES)];
+    return guest->places[*page] + 8 * guest->indexes[random_below(random, GUEST_INDEXES)];
 }
 
-void guest_tables(struct random *random, const struct guest *guest, uint8_t *memory)
+void guest_tables(struct random *random, const struct guest *guest, void (*store)(uint64_t address, uint64_t word))
 {
     for (unsigned page = 0; page < guest->pages; page++)
-        for (unsigned i = 0; i < GUEST_INDEXES; i++) {
-            uint64_t entry = guest_entry(random, guest, page);
-            for (unsigned byte = 0; byte < 8; byte++)
-                memory[4096 * page + 8 * guest->indexes[i] + byte] = (uint8_t)(entry >> 8 * byte);
-        }
+        for (unsigned i = 0; i < GUEST_INDEXES; i++)
+            store(guest->places[page] + 8 * guest->indexes[i], guest_entry(random, guest, page));
 }
 
 static uint64_t address_by_indexes(struct random *random, const struct guest *guest)
@@ -145,10 +158,12 @@ uint64_t guest_cr3(struct random *random, const struct guest *guest)
 {
     uint64_t value = guest->pcids[random_below(random, GUEST_PCIDS)];
     unsigned roots = guest->layered ? pages_a_level(guest) : guest->pages;
-    value |= UINT64_C(4096) * random_below(random, roots);
+    value |= guest->places[random_below(random, roots)];
     uint64_t which = random_below(random, 100);
     if (which < 1)
         value |= low_bits(random_word(random), (unsigned)guest->width); /* a root outside memory */
+    if (which == 1 && guest->high)
+        value = (value & PASTRULOW_CR3_PCID) | edge(random, guest); /* a root where a slice ends */
     if (which == 2)
         value |= UINT64_C(1) << (guest->width + random_below(random, 63 - guest->width));
     if (which >= 3 && which < (guest->flags & PASTRULOW_PCIDE ? 30 : 6))
@@ -158,7 +173,9 @@ uint64_t guest_cr3(struct random *random, const struct guest *guest)
 
 struct guest guest_make(struct random *random)
 {
-    struct guest guest = {.pages = (unsigned)(4 + random_below(random, GUEST_PAGES_MAX - 3))};
+    struct guest guest = {.low = true, .pages = (unsigned)(4 + random_below(random, GUEST_PAGES_MAX - 3))};
+    for (unsigned page = 0; page < GUEST_PAGES_MAX; page++)
+        guest.places[page] = UINT64_C(4096) * page;
     guest.width = random_percent(random, 25) ? 52 : 36 + random_below(random, 17);
     guest.layered = random_percent(random, 60);
     guest.large_often = guest.layered && random_percent(random, 50);
@@ -181,4 +198,19 @@ struct guest guest_make(struct random *random)
     if (!(guest.flags & PASTRULOW_PCIDE) && random_percent(random, 80))
         guest.pcids[1] = guest.pcids[2] = guest.pcids[3] = 0;
     return guest;
+}
+
+void guest_spread(struct random *random, struct guest *guest)
+{
+    uint64_t which = random_below(random, 100);
+    if (which < 15)
+        return;
+    guest->high = true;
+    guest->low = which >= 30;
+    uint64_t turn = random_below(random, GUEST_PAGES_MAX); /* so that any page of a slice may be the first table's */
+    for (unsigned page = 0; page < GUEST_PAGES_MAX; page++) {
+        guest->places[page] = 4096 * ((page + turn) % GUEST_PAGES_MAX);
+        if (!guest->low || random_percent(random, 50))
+            guest->places[page] += PASTRULOW_HIGH_BASE;
+    }
 }

@@ -74,9 +74,9 @@ static void load_states(void)
 /* The tables grow by one level at a time, so each walk stops a level lower, at an entry that is not there. */
 static void fault_at_each_level(void)
 {
-    static uint8_t memory[5 * PASTRULOW_PAGE_BYTES];
-    machine.memory = memory;
-    machine.memory_len = sizeof memory;
+    static uint8_t low[5 * PASTRULOW_PAGE_BYTES];
+    machine.low = low;
+    machine.low_len = sizeof low;
     load_state(40, PASTRULOW_PG, 0x1000);
     for (uint64_t level = 4; level > 0; level--) {
         struct pastrulow_answer fault = machine_translate(&machine, PASTRULOW_READ, 0, 0);

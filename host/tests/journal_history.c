@@ -21,7 +21,7 @@ struct attempt {
 };
 
 static struct machine machine;
-static uint8_t memory[7 * PASTRULOW_PAGE_BYTES], journal[JOURNAL_BYTES];
+static uint8_t low[7 * PASTRULOW_PAGE_BYTES], journal[JOURNAL_BYTES];
 static struct attempt attempts[FAULTS];
 static struct fault history[REPORTS];
 static size_t reports;
@@ -33,9 +33,9 @@ static const uint64_t pages[PAGES] = {0, 0x1000, 0x2000, 0x3000, 0x4000, 0x5000,
 
 static void write_tables(void)
 {
-    memset(memory, 0, sizeof memory);
-    machine.memory = memory;
-    machine.memory_len = sizeof memory;
+    memset(low, 0, sizeof low);
+    machine.low = low;
+    machine.low_len = sizeof low;
     machine_put_word(&machine, roots[0], 0x3007);
     machine_put_word(&machine, roots[1], 0x3007);
     machine_put_word(&machine, 0x3000, 0x4007);

@@ -24,8 +24,8 @@ struct pastrulow_answer machine_start(struct machine *machine, uint64_t width)
 
 struct pastrulow_answer machine_translate(struct machine *machine, uint64_t kind, uint64_t address, uint64_t ac)
 {
-    return read_record(pastrulow_translate(machine->image, sizeof machine->image, machine->memory, machine->memory_len,
-                                           kind, address, ac, record, sizeof record));
+    return read_record(pastrulow_translate(machine->image, sizeof machine->image, machine->low, machine->low_len,
+                                           machine->high, machine->high_len, kind, address, ac, record, sizeof record));
 }
 
 struct pastrulow_answer machine_invlpg(struct machine *machine, uint64_t address)
@@ -48,14 +48,19 @@ struct pastrulow_answer machine_write_mode(struct machine *machine, uint64_t fla
     return read_record(pastrulow_write_mode(machine->image, sizeof machine->image, flags, record, sizeof record));
 }
 
+uint8_t *machine_page(const struct machine *machine, uint64_t address)
+{
+    return pastrulow_page(machine->low, machine->low_len, machine->high, machine->high_len, address);
+}
+
 uint64_t machine_word(const struct machine *machine, uint64_t address)
 {
-    return pastrulow_word(machine->memory + address);
+    return pastrulow_word(machine_page(machine, address) + address % PASTRULOW_PAGE_BYTES);
 }
 
 void machine_put_word(struct machine *machine, uint64_t address, uint64_t word)
 {
-    pastrulow_put_word(machine->memory + address, word);
+    pastrulow_put_word(machine_page(machine, address) + address % PASTRULOW_PAGE_BYTES, word);
 }
 
 bool same_answer(struct pastrulow_answer one, struct pastrulow_answer other)

@@ -1,5 +1,5 @@
-/* A machine as a host has it: an image and guest memory; each call of the translator that writes one record, through the
-   archive, and the record read. */
+/* A machine as a host has it: an image, and guest memory low and high; each call of the translator that writes one record,
+   through the archive, and the record read. */
 #ifndef MACHINE_H
 #define MACHINE_H
 
@@ -9,8 +9,8 @@
 
 struct machine {
     uint8_t image[PASTRULOW_IMAGE_BYTES];
-    uint8_t *memory;
-    size_t memory_len;
+    uint8_t *low, *high;
+    size_t low_len, high_len;
 };
 
 /* Each of these ends the program if the number returned is not the one that the record says. */
@@ -21,6 +21,9 @@ struct pastrulow_answer machine_invpcid(struct machine *machine, uint64_t type, 
 struct pastrulow_answer machine_write_cr3(struct machine *machine, uint64_t value);
 struct pastrulow_answer machine_write_mode(struct machine *machine, uint64_t flags);
 
+/* The 4 KiB page that holds a physical address, or NULL if that is outside guest memory. */
+uint8_t *machine_page(const struct machine *machine, uint64_t address);
+/* A word at a physical address, which must be inside. */
 uint64_t machine_word(const struct machine *machine, uint64_t address);
 void machine_put_word(struct machine *machine, uint64_t address, uint64_t word);
 

@@ -42,19 +42,19 @@ void batch_fills(unsigned slot)
 }
 
 /* A walk reads all its entries before it marks one, so what is marked by now is an earlier pair's. */
-void batch_reads(uint64_t place)
+void batch_reads(uint64_t address)
 {
     for (unsigned i = 0; i < batch.marks; i++)
-        if (batch.marked[i] == place) {
+        if (batch.marked[i] == address) {
             event(EVENT_PAIR_READS_MARK);
             return;
         }
 }
 
-void batch_marks(uint64_t place)
+void batch_marks(uint64_t address)
 {
     if (batch.under_way)
-        batch.marked[batch.marks++] = place;
+        batch.marked[batch.marks++] = address;
 }
 
 /* Refusal 10. The event says which of its conditions holds; if several do, the first. */
@@ -97,8 +97,8 @@ static void count_record(const uint8_t *record, uint64_t before)
     }
 }
 
-uint64_t model_translate_many(uint8_t *image, size_t image_len, uint8_t *memory, size_t memory_len, const uint8_t *pairs,
-                              size_t pairs_len, uint8_t *answers, size_t answers_len)
+uint64_t model_translate_many(uint8_t *image, size_t image_len, uint8_t *low, size_t low_len, uint8_t *high, size_t high_len,
+                              const uint8_t *pairs, size_t pairs_len, uint8_t *answers, size_t answers_len)
 {
     bool image_unfit = image_flaws(image, image_len) != 0;
     enum event which;
@@ -112,7 +112,7 @@ uint64_t model_translate_many(uint8_t *image, size_t image_len, uint8_t *memory,
     batch.under_way = true;
     for (size_t i = 0; i < pairs_len / 16; i++) {
         uint64_t kind = word_at(pairs + 16 * i), address = word_at(pairs + 16 * i + 8);
-        model_translate(image, image_len, memory, memory_len, kind, address, 0, answers + 32 * i, 32);
+        model_translate(image, image_len, low, low_len, high, high_len, kind, address, 0, answers + 32 * i, 32);
         count_record(answers + 32 * i, i == 0 ? DONE : word_at(answers + 32 * (i - 1)));
     }
     if (batch.refused[3] && batch.refused[4])

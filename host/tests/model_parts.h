@@ -1,4 +1,4 @@
-/* The parts of the model: the state as named fields, the walk, the buffer. */
+/* The parts of the model: the state as named fields, guest memory, the walk, the buffer. */
 #ifndef MODEL_PARTS_H
 #define MODEL_PARTS_H
 
@@ -31,8 +31,8 @@ struct access {
 };
 
 struct memory {
-    uint8_t *bytes;
-    size_t length;
+    uint8_t *low, *high;
+    size_t low_length, high_length;
 };
 
 /* A page with the rights over all its levels: what a slot holds and what a walk finds. */
@@ -63,6 +63,13 @@ bool canonical(uint64_t address);
 void set_flags(struct state *state, uint64_t flags);
 struct state decode(const uint8_t *image);
 void encode(const struct state *state, uint8_t *image);
+
+/* Guest memory. */
+bool in_high(uint64_t address);                               /* from 4 GiB up */
+uint8_t *place_of(struct memory memory, uint64_t address);    /* in a slice, or NULL if it is outside */
+bool memory_refused(struct memory memory, enum event *which); /* refusal 4, and why */
+void count_memory(struct memory memory);                      /* that a translation is lent */
+void count_place(struct memory memory, uint64_t address);     /* that a walk reads */
 
 /* Rights. The supervisor is kept off user pages: a fetch by SMEP, a read or a write by SMAP unless AC is set. */
 bool kept_off(const struct state *state, struct access access);
@@ -97,7 +104,7 @@ void batch_hits(unsigned slot);
 void batch_drops(unsigned slot);
 void batch_evicts(unsigned slot);
 void batch_fills(unsigned slot);
-void batch_reads(uint64_t place); /* an entry in guest memory */
-void batch_marks(uint64_t place);
+void batch_reads(uint64_t address); /* an entry in guest memory */
+void batch_marks(uint64_t address);
 
 #endif

@@ -111,17 +111,19 @@ static void translate_paged(struct state *state, struct memory memory, struct ac
     put_answer(answer, ADDRESS, walked.base + address % length, length, walked.read);
 }
 
-uint64_t model_translate(uint8_t *image, size_t image_len, uint8_t *memory, size_t memory_len, uint64_t kind,
-                         uint64_t address, uint64_t ac, uint8_t *answer, size_t answer_len)
+uint64_t model_translate(uint8_t *image, size_t image_len, uint8_t *low, size_t low_len, uint8_t *high, size_t high_len,
+                         uint64_t kind, uint64_t address, uint64_t ac, uint8_t *answer, size_t answer_len)
 {
+    struct memory memory = {low, high, low_len, high_len};
+    enum event which;
     if (answer_len != 32)
         return refused(answer, 1, EVENT_TRANSLATE_1);
     if (bad_image(image, image_len))
         return refused(answer, 2, EVENT_TRANSLATE_2);
     if (kind > 5)
         return refused(answer, 3, EVENT_TRANSLATE_3);
-    if (memory_len % 4096 != 0)
-        return refused(answer, 4, EVENT_TRANSLATE_4);
+    if (memory_refused(memory, &which))
+        return refused(answer, 4, which);
     struct state state = decode(image);
     if (state.pg && !canonical(address))
         return refused(answer, 5, EVENT_TRANSLATE_5_ON);
@@ -133,8 +135,8 @@ uint64_t model_translate(uint8_t *image, size_t image_len, uint8_t *memory, size
         return 0;
     }
     struct access access = {kind % 3 == 1, kind % 3 == 2, kind >= 3, ac != 0};
-    struct memory guest = {memory, memory_len};
-    translate_paged(&state, guest, access, address, answer);
+    count_memory(memory);
+    translate_paged(&state, memory, access, address, answer);
     encode(&state, image);
     return 0;
 }

@@ -7,15 +7,15 @@ static const uint64_t all_ones = UINT64_MAX;
 struct entry {
     uint64_t address;
     uint64_t word;
-    bool outside;
+    uint8_t *place; /* NULL if it lies outside */
 };
 
 static struct entry read_entry(struct memory memory, uint64_t address, unsigned level)
 {
-    struct entry entry = {address, all_ones, true};
-    if (address < memory.length) {
-        entry.word = word_at(memory.bytes + address);
-        entry.outside = false;
+    struct entry entry = {address, all_ones, place_of(memory, address)};
+    count_place(memory, address);
+    if (entry.place != NULL) {
+        entry.word = word_at(entry.place);
         batch_reads(address);
     } else {
         event(EVENT_OUTSIDE_1 + (level - 1));
@@ -85,25 +85,29 @@ bool allows(const struct state *state, struct access access, struct rights right
 }
 
 /* Adds one bit to what memory holds; gives whether it was not there. */
-static bool add_bit(struct memory memory, struct entry entry, unsigned number)
+static bool add_bit(struct entry entry, unsigned number)
 {
-    if (entry.outside)
+    if (entry.place == NULL)
         return false;
-    uint64_t word = word_at(memory.bytes + entry.address);
-    put_word(memory.bytes + entry.address, word | UINT64_C(1) << number);
+    uint64_t word = word_at(entry.place);
+    put_word(entry.place, word | UINT64_C(1) << number);
     if (!bit(word, number))
         batch_marks(entry.address);
     return !bit(word, number);
 }
 
-static void mark(struct memory memory, struct access access, const struct entry *entries, const struct walked *walked)
+static void mark(struct access access, const struct entry *entries, const struct walked *walked)
 {
     unsigned last = walked->read - 1;
     for (unsigned i = 0; i <= last; i++)
-        if (add_bit(memory, entries[i], 5))
+        if (add_bit(entries[i], 5)) {
             event(i == last ? EVENT_ACCESSED_PAGE : EVENT_ACCESSED_UPPER);
-    if (access.write && add_bit(memory, entries[last], 6))
+            event(in_high(entries[i].address) ? EVENT_ACCESSED_HIGH : EVENT_ACCESSED_LOW);
+        }
+    if (access.write && add_bit(entries[last], 6)) {
         event(EVENT_DIRTY_4K + walked->size);
+        event(in_high(entries[last].address) ? EVENT_DIRTY_HIGH : EVENT_DIRTY_LOW);
+    }
 }
 
 static void count_barred(const struct state *state, struct access access, struct rights rights, struct rights last)
@@ -137,23 +141,42 @@ static void count_let_through(const struct state *state, struct access access, s
         event(EVENT_SPARED_SUPERVISOR);
 }
 
+/* The slices that the entries stand in, none of them outside. */
+static void count_slices(const struct entry *entries, unsigned read)
+{
+    bool first_high = in_high(entries[0].address);
+    unsigned ups = 0, downs = 0;
+    for (unsigned i = 1; i < read; i++) {
+        bool before = in_high(entries[i - 1].address), now = in_high(entries[i].address);
+        ups += !before && now;
+        downs += before && !now;
+    }
+    if (ups + downs == 0)
+        event(first_high ? EVENT_WALK_HIGH : EVENT_WALK_LOW);
+    else if (ups + downs == 1)
+        event(first_high ? EVENT_WALK_DOWN : EVENT_WALK_UP);
+    else
+        event(first_high ? EVENT_WALK_DOWN_AND_UP : EVENT_WALK_UP_AND_DOWN);
+}
+
 static void count_success(struct access access, const struct entry *entries, const struct walked *walked)
 {
     if (access.write && !walked->rights.writable)
         event(EVENT_WALK_FALSE_WP);
-    if (entries[walked->read - 1].outside)
+    if (entries[walked->read - 1].place == NULL)
         event(EVENT_OUTSIDE_PAGE);
+    else
+        count_slices(entries, walked->read);
     for (unsigned i = 0; i < walked->read; i++)
         for (unsigned j = 0; j < i; j++)
-            if (!entries[i].outside && entries[i].address == entries[j].address) {
+            if (entries[i].place != NULL && entries[i].address == entries[j].address) {
                 event(EVENT_ENTRY_TWICE);
                 return;
             }
 }
 
 /* The walk has come to a page: rights are judged, and memory is marked if they suffice. */
-static void judge(const struct state *state, struct memory memory, struct access access, const struct entry *entries,
-                  struct walked *walked)
+static void judge(const struct state *state, struct access access, const struct entry *entries, struct walked *walked)
 {
     static const unsigned low[SIZES] = {12, 21, 30};
     const struct entry *last = &entries[walked->read - 1];
@@ -170,8 +193,8 @@ static void judge(const struct state *state, struct memory memory, struct access
     walked->global = state->pge && bit(last->word, 8);
     count_let_through(state, access, walked->rights);
     count_success(access, entries, walked);
-    mark(memory, access, entries, walked);
-    walked->dirty = last->outside ? true : bit(word_at(memory.bytes + last->address), 6);
+    mark(access, entries, walked);
+    walked->dirty = last->place == NULL ? true : bit(word_at(last->place), 6);
     if (bit(last->word, 8) && !state->pge)
         event(EVENT_FILL_PGE_OFF);
 }
@@ -200,6 +223,6 @@ struct walked walk(const struct state *state, struct memory memory, struct acces
             break;
         table = bits(entry.word, (unsigned)state->width - 1, 12) << 12;
     }
-    judge(state, memory, access, entries, &walked);
+    judge(state, access, entries, &walked);
     return walked;
 }

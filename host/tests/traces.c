@@ -211,11 +211,17 @@ static void write_steps(struct random *random, const struct guest *guest, unsign
     }
 }
 
+static uint8_t tables[GUEST_SLICE];
+
+static void keep_entry(uint64_t address, uint64_t word)
+{
+    pastrulow_put_word(tables + address, word);
+}
+
 static void write_tables(struct random *random, const struct guest *guest)
 {
-    static uint8_t tables[PASTRULOW_PAGE_BYTES * GUEST_PAGES_MAX];
     memset(tables, 0, sizeof tables);
-    guest_tables(random, guest, tables);
+    guest_tables(random, guest, keep_entry);
     for (size_t at = 0; at < sizeof tables && written < wanted; at += 8) {
         uint64_t word = pastrulow_word(tables + at);
         if (word == 0)

@@ -7,7 +7,7 @@
 
 enum { GUEST_BYTES = 24 * 1024, FLAGS = 23 };
 
-static uint8_t memory[GUEST_BYTES];
+static uint8_t low[GUEST_BYTES];
 static struct machine machine;
 static const char *case_name;
 static unsigned checks, failed;
@@ -69,9 +69,9 @@ static void afresh(const char *name)
                  {0x4008, 0x5005},     {0x4010, UINT64_C(0x8000000000005007)},
                  {0x4028, 0x5107},     {0x4020, UINT64_C(0x10000005007)}};
     case_name = name;
-    memset(memory, 0, sizeof memory);
-    machine.memory = memory;
-    machine.memory_len = sizeof memory;
+    memset(low, 0, sizeof low);
+    machine.low = low;
+    machine.low_len = sizeof low;
     for (size_t i = 0; i < sizeof words / sizeof *words; i++)
         machine_put_word(&machine, words[i].address, words[i].word);
     is_done("start", machine_start(&machine, 40));

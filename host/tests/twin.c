@@ -18,7 +18,7 @@
 #define CALL(name) NAMED(CALLS, name)
 
 enum {
-    GUEST_BYTES = 64 * 1024,
+    GUEST_BYTES = 64 * 1024, /* all of them low */
     BLOCK = 64 * 1024,
     ENOUGH = 53, /* bytes that show that a line is too long: a letter and three numbers, the longest that is good, are 52 */
     ROOM = 80,   /* more than any line that is printed */
@@ -30,7 +30,7 @@ struct order {
     uint64_t numbers[3];
 };
 
-static uint8_t image[PASTRULOW_IMAGE_BYTES], record[PASTRULOW_ANSWER_BYTES], memory[GUEST_BYTES];
+static uint8_t image[PASTRULOW_IMAGE_BYTES], record[PASTRULOW_ANSWER_BYTES], low[GUEST_BYTES];
 static uint8_t input[ENOUGH + BLOCK + 1]; /* the start of a line that has no end yet, a block, and a line feed behind it */
 static char output[BLOCK];
 static size_t printed;
@@ -76,7 +76,7 @@ static bool store(uint64_t address, uint64_t word)
 {
     if (address % 8 != 0 || address >= GUEST_BYTES)
         return false;
-    pastrulow_put_word(memory + address, word);
+    pastrulow_put_word(low + address, word);
     return true;
 }
 
@@ -100,7 +100,7 @@ static struct pastrulow_answer perform(const struct order *order)
         CALL(invpcid)(image, sizeof image, n[0], n[1], n[2], record, sizeof record);
         break;
     case 'T':
-        CALL(translate)(image, sizeof image, memory, sizeof memory, n[0], n[1], 0, record, sizeof record);
+        CALL(translate)(image, sizeof image, low, sizeof low, NULL, 0, n[0], n[1], 0, record, sizeof record);
         break;
     default:
         return (struct pastrulow_answer){store(n[0], n[1]) ? PASTRULOW_DONE : BAD, 0, 0, 0};

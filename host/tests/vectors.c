@@ -39,7 +39,7 @@ void put_words(struct machine *machine, const char *words)
     uint64_t address, word;
     int used;
     while (sscanf(words, " %" SCNx64 ":%" SCNx64 "%n", &address, &word, &used) == 2) {
-        if (address % 8 != 0 || address >= machine->memory_len)
+        if (address % 8 != 0 || machine_page(machine, address) == NULL)
             bad_line(words);
         machine_put_word(machine, address, word);
         words += used;

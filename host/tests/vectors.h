@@ -7,7 +7,7 @@
 
 #include "machine.h"
 
-enum { VECTOR_MEMORY = 64 * 1024 };
+enum { VECTOR_LOW = 64 * 1024 }; /* what Bochs' machines have; they have no high */
 
 /* Opens a file or ends the program. */
 FILE *open_vectors(int count, char **arguments, int which, const char *usage);

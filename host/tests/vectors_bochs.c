@@ -11,9 +11,9 @@ struct single {
     bool beyond; /* noted beyond-64k: memory that the case does not give */
 };
 
-static uint8_t memory[VECTOR_MEMORY], expected_memory[VECTOR_MEMORY];
-static struct machine machine = {.memory = memory, .memory_len = VECTOR_MEMORY};
-static struct machine expected = {.memory = expected_memory, .memory_len = VECTOR_MEMORY};
+static uint8_t low[VECTOR_LOW], expected_low[VECTOR_LOW];
+static struct machine machine = {.low = low, .low_len = VECTOR_LOW};
+static struct machine expected = {.low = expected_low, .low_len = VECTOR_LOW};
 static unsigned long made, newer_flags, ac_set, addresses, faults, refusals, hits, beyond_memory, failed;
 
 static void wrong(const struct single *single, const char *what, struct pastrulow_answer came)
@@ -50,7 +50,7 @@ static void make(const struct single *single)
     refusals += answer.kind == PASTRULOW_REFUSED;
     if (!same_result(answer, single->result) || (answer.kind != PASTRULOW_REFUSED && answer.read == 0))
         wrong(single, "result", answer);
-    if (memcmp(memory, expected_memory, sizeof memory) != 0)
+    if (memcmp(low, expected_low, sizeof low) != 0)
         wrong(single, "guest memory", answer);
     make_again(single);
 }
@@ -83,8 +83,8 @@ static void end_case(struct single *single)
     else if (single->width != 0)
         make(single);
     *single = none;
-    memset(memory, 0, sizeof memory);
-    memset(expected_memory, 0, sizeof expected_memory);
+    memset(low, 0, sizeof low);
+    memset(expected_low, 0, sizeof expected_low);
 }
 
 int main(int count, char **arguments)

@@ -1,12 +1,13 @@
 /*
- * The pages of a running Linux, as QEMU listed them: vectors_linux linux-guest.bin linux-guest.txt
- * Each page is asked for by all six kinds, cold, again, and warm from the other kinds, with write protect on and off: as the
- * guest ran, and with SMEP and SMAP on, with AC and without.
+ * The pages of a running Linux, as QEMU listed them: vectors_linux GUEST.bin GUEST.txt
+ * Each page is asked for by all six kinds, cold, again, and warm from the other kinds, with write protect on and off, SMEP and
+ * SMAP off and on, with AC and without. If the guest has high, some of the tables that walks read must lie there.
  */
 #include <inttypes.h>
 #include <stdlib.h>
 #include <string.h>
 
+#include "sparse.h"
 #include "vectors.h"
 
 struct page {
@@ -18,6 +19,7 @@ static struct machine machine;
 static uint64_t width, flags; /* the guest's own */
 static uint64_t mode, ac;     /* under which it is asked */
 static unsigned long roots, pages, singles, absent, hits, misses, faults, failed;
+static unsigned long tables_read, high_tables_read;
 
 static void must_be_done(struct pastrulow_answer answer, const char *what)
 {
@@ -33,12 +35,25 @@ static void load_tables(FILE *file)
     unsigned long loaded = 0;
     while (fread(record, sizeof record, 1, file) == 1) {
         uint64_t address = pastrulow_word(record);
-        if (address % PASTRULOW_PAGE_BYTES != 0 || address >= machine.memory_len)
+        uint8_t *page = machine_page(&machine, address);
+        if (address % PASTRULOW_PAGE_BYTES != 0 || page == NULL)
             bad_line("a table outside guest memory");
-        memcpy(machine.memory + address, record + 8, PASTRULOW_PAGE_BYTES);
+        memcpy(page, record + 8, PASTRULOW_PAGE_BYTES);
         loaded++;
     }
-    printf("linux: %lu pages of tables in %zu MiB\n", loaded, machine.memory_len >> 20);
+    printf("linux: %lu pages of tables in %zu MiB of low and %zu MiB of high\n", loaded, machine.low_len >> 20,
+           machine.high_len >> 20);
+}
+
+/* The tables of a walk that has read so many entries, one from each. */
+static void count_tables(uint64_t address, uint64_t read)
+{
+    uint64_t table = pastrulow_root(machine.image);
+    for (unsigned from = 39; from >= 12 && read > 0; from -= 9, read--) {
+        tables_read++;
+        high_tables_read += table >= PASTRULOW_HIGH_BASE;
+        table = machine_word(&machine, table + 8 * (address >> from & 511)) & UINT64_C(0xffffffffff000);
+    }
 }
 
 /* What the rights of a page, and the flags by which they are judged, let an access of this kind come to. */
@@ -82,7 +97,9 @@ static void ask(const struct page *page, uint64_t kind, uint64_t address, enum w
     hits += hit;
     misses += came.kind == PASTRULOW_ADDRESS && !hit;
     faults += came.kind == PASTRULOW_FAULT;
-    if (!same_result(came, expected) || !((hit && may_hit) || (came.read == levels && may_miss)))
+    if (same_result(came, expected) && ((hit && may_hit) || (came.read == levels && may_miss)))
+        count_tables(address, came.read);
+    else
         wrong(kind, address, expected, came);
 }
 
@@ -98,14 +115,15 @@ static void try_page(const struct page *page)
         ask(page, kind, page->virtual, EITHER);
 }
 
-/* Flags that are changed, and AC. The guest ran with write protect on, and with neither SMEP nor SMAP. */
+/* The flags that rights are judged by, and AC. The recorded guests ran under the first or the third of these. */
+static const uint64_t judging = PASTRULOW_WP | PASTRULOW_SMEP | PASTRULOW_SMAP;
 static const struct {
     uint64_t flags, ac;
-} changes[] = {{0, 0},
-               {PASTRULOW_WP, 0},
-               {PASTRULOW_SMEP | PASTRULOW_SMAP, 0},
-               {PASTRULOW_SMEP | PASTRULOW_SMAP, 1},
-               {PASTRULOW_WP | PASTRULOW_SMEP | PASTRULOW_SMAP, 0}};
+} judged[] = {{PASTRULOW_WP, 0},
+              {0, 0},
+              {PASTRULOW_WP | PASTRULOW_SMEP | PASTRULOW_SMAP, 0},
+              {PASTRULOW_WP | PASTRULOW_SMEP | PASTRULOW_SMAP, 1},
+              {PASTRULOW_SMEP | PASTRULOW_SMAP, 0}};
 
 static void take_page(const char *line)
 {
@@ -118,28 +136,31 @@ static void take_page(const char *line)
     page.writable = strchr(rights, 'w') != NULL;
     page.executable = fetch[0] == 'x';
     pages++;
-    for (unsigned i = 0; i < sizeof changes / sizeof *changes; i++) {
-        mode = flags ^ changes[i].flags;
-        ac = changes[i].ac;
+    for (unsigned i = 0; i < sizeof judged / sizeof *judged; i++) {
+        mode = (flags & ~judging) | judged[i].flags;
+        ac = judged[i].ac;
         must_be_done(machine_write_mode(&machine, mode), "mode write");
         try_page(&page);
     }
     must_be_done(machine_write_mode(&machine, flags), "mode write");
 }
 
-/* One address that QEMU was asked for: where it lies, or that nothing is there. */
+/* One address that QEMU was asked for: where it lies, whatever its rights, or that nothing is there. With AC set the supervisor
+   may read every page. */
 static void take_single(const char *line)
 {
     uint64_t address, physical;
     int numbers = sscanf(line, "g %" SCNx64 " %" SCNx64, &address, &physical);
     if (numbers < 1 || (numbers == 1 && strstr(line, " none") == NULL))
         bad_line(line);
-    struct pastrulow_answer came = machine_translate(&machine, PASTRULOW_READ, address, 0);
+    struct pastrulow_answer came = machine_translate(&machine, PASTRULOW_READ, address, 1);
     struct pastrulow_answer expected = {numbers == 2 ? PASTRULOW_ADDRESS : PASTRULOW_FAULT, numbers == 2 ? physical : 0,
                                         numbers == 2 ? came.size : 0, came.read};
     singles++;
     absent += numbers == 1;
-    if (!same_answer(came, expected))
+    if (same_answer(came, expected))
+        count_tables(address, came.read);
+    else
         wrong(PASTRULOW_READ, address, expected, came);
 }
 
@@ -147,13 +168,12 @@ static void take_machine(const char *line)
 {
     uint64_t low, high;
     if (sscanf(line, "machine low %" SCNx64 " high %" SCNx64 " m %" SCNx64 " flags %" SCNx64, &low, &high, &width,
-               &flags) != 4 ||
-        high != 0)
+               &flags) != 4)
         bad_line(line);
-    machine.memory_len = low;
-    machine.memory = calloc(1, low);
-    if (machine.memory == NULL)
-        bad_line("no room for guest memory");
+    machine.low_len = low;
+    machine.low = sparse(low);
+    machine.high_len = high;
+    machine.high = sparse(high);
 }
 
 static void take_root(const char *line)
@@ -185,17 +205,17 @@ static void take_line(FILE *tables, const char *line)
 
 int main(int count, char **arguments)
 {
-    static const char usage[] = "vectors_linux linux-guest.bin linux-guest.txt";
+    static const char usage[] = "vectors_linux GUEST.bin GUEST.txt";
     FILE *tables = open_vectors(count, arguments, 1, usage);
     FILE *list = open_vectors(count, arguments, 2, usage);
     for (char *line = next_line(list); line != NULL; line = next_line(list))
         take_line(tables, line);
     fclose(tables);
     fclose(list);
-    free(machine.memory);
     printf("linux: %lu pages under %lu roots, six kinds each, and %lu single addresses, %lu of them not mapped\n", pages, roots,
            singles, absent);
-    printf("linux: %lu hits, %lu misses, %lu faults\n", hits, misses, faults);
+    printf("linux: %lu hits, %lu misses, %lu faults; %lu tables read, %lu of them above 4 GiB\n", hits, misses, faults,
+           tables_read, high_tables_read);
     printf("linux: %lu failed\n", failed);
-    return failed != 0 || pages == 0;
+    return failed != 0 || pages == 0 || (machine.high_len > 0 && high_tables_read == 0);
 }

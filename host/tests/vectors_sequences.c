@@ -5,9 +5,9 @@
 
 #include "vectors.h"
 
-static uint8_t memory[VECTOR_MEMORY], expected_memory[VECTOR_MEMORY];
-static struct machine machine = {.memory = memory, .memory_len = VECTOR_MEMORY};
-static struct machine expected = {.memory = expected_memory, .memory_len = VECTOR_MEMORY};
+static uint8_t low[VECTOR_LOW], expected_low[VECTOR_LOW];
+static struct machine machine = {.low = low, .low_len = VECTOR_LOW};
+static struct machine expected = {.low = expected_low, .low_len = VECTOR_LOW};
 static unsigned long sequence;
 static unsigned long whole, hits, misses, faults, operations, stores, failed;
 
@@ -21,7 +21,7 @@ static void begin(const char *line)
 {
     if (sscanf(line, "# sequence %lx", &sequence) != 1)
         return;
-    memset(memory, 0, sizeof memory);
+    memset(low, 0, sizeof low);
     memset(machine.image, 0, sizeof machine.image);
 }
 
@@ -29,9 +29,9 @@ static void begin(const char *line)
 static void end(const char *words)
 {
     whole++;
-    memset(expected_memory, 0, sizeof expected_memory);
+    memset(expected_low, 0, sizeof expected_low);
     put_words(&expected, words);
-    if (memcmp(memory, expected_memory, sizeof memory) != 0)
+    if (memcmp(low, expected_low, sizeof low) != 0)
         wrong("guest memory at the end");
 }
 
@@ -55,7 +55,7 @@ static void translate(const char *line)
 static void store(const char *line)
 {
     uint64_t address, word;
-    if (sscanf(line, "P %" SCNx64 " %" SCNx64, &address, &word) != 2 || address % 8 != 0 || address >= VECTOR_MEMORY)
+    if (sscanf(line, "P %" SCNx64 " %" SCNx64, &address, &word) != 2 || address % 8 != 0 || address >= VECTOR_LOW)
         bad_line(line);
     machine_put_word(&machine, address, word);
     stores++;

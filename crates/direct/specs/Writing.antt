@@ -1,12 +1,12 @@
 -- The steps of a translation into a record, over the image's bytes: what each is lent, and what it writes.
-use Prim.Native.Nat.{ℕ, _/_, _%_}
+use Prim.Native.Nat.{ℕ, _/_}
 use mathlib.Core.Path.{_≡_}
 use mathlib.Core.Bool.{Bool, cond, _&&_}
 use mathlib.Core.List.{List}
 use lib.ListN.{length}
 use Rattle.rules.specs.Sizes.{sizeOf}
 use Rattle.rules.specs.Image.{encode, decode, control, pcid}
-use Rattle.rules.specs.Memory.{Memory}
+use Rattle.rules.specs.Memory.{Memory, Whole}
 use Rattle.rules.specs.Buffer.{serves, hitAddress}
 use Rattle.rules.specs.Answers.{numbers, recordBytes}
 use Rattle.rules.specs.Calls.{After}
@@ -17,11 +17,11 @@ use Rattle.numbers.specs.Needs.{ForEach, Known}
 use Rattle.records.specs.Record.{Recorded}
 use Rattle.paging.specs.Paged.{Usable}
 
--- what is lent: the bytes of an image, with a width, a record's room, whole words of memory, and the number of an access
+-- what is lent: the bytes of an image, with a width, a record's room, memory that is whole, and the number of an access
 pub record Lent (b r : List ℕ) (mem : Memory) (n : ℕ) : Type 0 where
   pub usable : Usable b
   pub room : length r ≡ 32
-  pub whole : length mem % 8 ≡ 0
+  pub whole : Whole mem
   pub known : Known (decode b .flags) n
 
 -- what is left of an outcome over parts: the answer in its record, the number that is returned, bytes and memory

@@ -1,9 +1,10 @@
 // Translation of one address straight into a record, for the door: a small page that is held is answered at once, and all else goes on in steps. A step that cannot answer calls the
-// next one last, with what it was given and in that order, so that the call is a jump.
+// next one last, with what it was given and in that order, so that little is moved on the way.
 ghost use mathlib.Core.Path.{_≡_};
 ghost use mathlib.Core.List.{_++_};
 ghost use lib.ListN.{length};
 ghost use Rattle.rules.specs.Image.{decode};
+ghost use Rattle.rules.specs.Memory.{both};
 ghost use Rattle.rules.specs.Buffer.{find};
 ghost use Rattle.rules.specs.Refusals.{translate};
 ghost use Rattle.rules.specs.Calls.{looked};
@@ -25,11 +26,18 @@ use sets::size::Page4K;
 const NO_RECORD: u64 = 1;
 
 // The walk is made, and its answer written.
-pub fn missed(image: &mut [u8], answer: &mut [u8], mem: &mut [u8], access: u64, a: u64) -> u64
-    requires { ⌜ Lent (now image) (now answer) (now mem) access ⌝ }
-    ensures { λ r. ⌜ ForEach (decode (now (image .entry)) .flags) access (λ k. Writes (missedOf (decode (now (image .entry))) (now (mem .entry)) k a) (now (answer .exit)) (now (image .exit)) (now (mem .exit)) r) ⌝ }
+pub fn missed(
+    image: &mut [u8],
+    answer: &mut [u8],
+    low: &mut [u8],
+    high: &mut [u8],
+    access: u64,
+    a: u64,
+) -> u64
+    requires { ⌜ Lent (now image) (now answer) (both (now low) (now high)) access ⌝ }
+    ensures { λ r. ⌜ ForEach (decode (now (image .entry)) .flags) access (λ k. Writes (missedOf (decode (now (image .entry))) (both (now (low .entry)) (now (high .entry))) k a) (now (answer .exit)) (now (image .exit)) (both (now (low .exit)) (now (high .exit))) r) ⌝ }
 {
-    records::write_record(answer, paging::walked(image, mem, access, a))
+    records::write_record(answer, paging::walked(image, low, high, access, a))
 }
 
 // Whether the slot at a place answers: it is one's own, and its page allows the access. Then its answer is written.
@@ -48,48 +56,69 @@ pub fn serve(image: &[u8], answer: &mut [u8], at: usize, size: u64, access: u64,
 }
 
 // A page is held, and is another's or does not allow the access.
-pub fn look_through(image: &mut [u8], answer: &mut [u8], mem: &mut [u8], access: u64, a: u64) -> u64
-    requires { ⌜ Lent (now image) (now answer) (now mem) access ⌝ }
-    ensures { λ r. ⌜ ForEach (decode (now (image .entry)) .flags) access (λ k. Writes (looked (decode (now (image .entry))) (now (mem .entry)) k a (find (decode (now (image .entry))) a)) (now (answer .exit)) (now (image .exit)) (now (mem .exit)) r) ⌝ }
+pub fn look_through(
+    image: &mut [u8],
+    answer: &mut [u8],
+    low: &mut [u8],
+    high: &mut [u8],
+    access: u64,
+    a: u64,
+) -> u64
+    requires { ⌜ Lent (now image) (now answer) (both (now low) (now high)) access ⌝ }
+    ensures { λ r. ⌜ ForEach (decode (now (image .entry)) .flags) access (λ k. Writes (looked (decode (now (image .entry))) (both (now (low .entry)) (now (high .entry))) k a (find (decode (now (image .entry))) a)) (now (answer .exit)) (now (image .exit)) (both (now (low .exit)) (now (high .exit))) r) ⌝ }
 {
     match paging::find_held(image, access, a) {
         Held::Page(value, size) => {
             records::put(answer, 0, value, size, 0);
             0
         }
-        Held::Nothing => missed(image, answer, mem, access, a),
+        Held::Nothing => missed(image, answer, low, high, access, a),
     }
 }
 
 // No page of 4 KiB or 2 MiB is held: one of 1 GiB, then the walk.
-pub fn look_large(image: &mut [u8], answer: &mut [u8], mem: &mut [u8], access: u64, a: u64) -> u64
-    requires { ⌜ Lent (now image) (now answer) (now mem) access × FirstHeld (now image) a (ways small a ++ ways middle a) Nowhere ⌝ }
-    ensures { λ r. ⌜ ForEach (decode (now (image .entry)) .flags) access (λ k. Writes (looked (decode (now (image .entry))) (now (mem .entry)) k a (find (decode (now (image .entry))) a)) (now (answer .exit)) (now (image .exit)) (now (mem .exit)) r) ⌝ }
+pub fn look_large(
+    image: &mut [u8],
+    answer: &mut [u8],
+    low: &mut [u8],
+    high: &mut [u8],
+    access: u64,
+    a: u64,
+) -> u64
+    requires { ⌜ Lent (now image) (now answer) (both (now low) (now high)) access × FirstHeld (now image) a (ways small a ++ ways middle a) Nowhere ⌝ }
+    ensures { λ r. ⌜ ForEach (decode (now (image .entry)) .flags) access (λ k. Writes (looked (decode (now (image .entry))) (both (now (low .entry)) (now (high .entry))) k a (find (decode (now (image .entry))) a)) (now (answer .exit)) (now (image .exit)) (both (now (low .exit)) (now (high .exit))) r) ⌝ }
 {
     match look::large(image, a) {
         Place::At(at, size) => {
             if serve(image, answer, at, size, access, a) {
                 return 0;
             }
-            look_through(image, answer, mem, access, a)
+            look_through(image, answer, low, high, access, a)
         }
-        Place::Nowhere => missed(image, answer, mem, access, a),
+        Place::Nowhere => missed(image, answer, low, high, access, a),
     }
 }
 
 // No page of 4 KiB is held: one of 2 MiB, then the larger.
-pub fn look_middle(image: &mut [u8], answer: &mut [u8], mem: &mut [u8], access: u64, a: u64) -> u64
-    requires { ⌜ Lent (now image) (now answer) (now mem) access × FirstHeld (now image) a (ways small a) Nowhere ⌝ }
-    ensures { λ r. ⌜ ForEach (decode (now (image .entry)) .flags) access (λ k. Writes (looked (decode (now (image .entry))) (now (mem .entry)) k a (find (decode (now (image .entry))) a)) (now (answer .exit)) (now (image .exit)) (now (mem .exit)) r) ⌝ }
+pub fn look_middle(
+    image: &mut [u8],
+    answer: &mut [u8],
+    low: &mut [u8],
+    high: &mut [u8],
+    access: u64,
+    a: u64,
+) -> u64
+    requires { ⌜ Lent (now image) (now answer) (both (now low) (now high)) access × FirstHeld (now image) a (ways small a) Nowhere ⌝ }
+    ensures { λ r. ⌜ ForEach (decode (now (image .entry)) .flags) access (λ k. Writes (looked (decode (now (image .entry))) (both (now (low .entry)) (now (high .entry))) k a (find (decode (now (image .entry))) a)) (now (answer .exit)) (now (image .exit)) (both (now (low .exit)) (now (high .exit))) r) ⌝ }
 {
     match look::middle(image, a) {
         Place::At(at, size) => {
             if serve(image, answer, at, size, access, a) {
                 return 0;
             }
-            look_through(image, answer, mem, access, a)
+            look_through(image, answer, low, high, access, a)
         }
-        Place::Nowhere => look_large(image, answer, mem, access, a),
+        Place::Nowhere => look_large(image, answer, low, high, access, a),
     }
 }
 
@@ -97,21 +126,22 @@ pub fn look_middle(image: &mut [u8], answer: &mut [u8], mem: &mut [u8], access: 
 // too: in line in both they cost less than a call.
 pub fn translate_into(
     image: &mut [u8],
-    mem: &mut [u8],
+    low: &mut [u8],
+    high: &mut [u8],
     kind: u64,
     a: u64,
     ac: u64,
     answer: &mut [u8],
 ) -> u64
-    ensures { λ r. ⌜ TranslatesInto (translate kind a ac) (now (answer .entry)) (now (answer .exit)) (now (image .entry)) (now (image .exit)) (now (mem .entry)) (now (mem .exit)) r ⌝ }
+    ensures { λ r. ⌜ TranslatesInto (translate kind a ac) (now (answer .entry)) (now (answer .exit)) (now (image .entry)) (now (image .exit)) (both (now (low .entry)) (now (high .entry))) (both (now (low .exit)) (now (high .exit))) r ⌝ }
 {
     if answer.len() != records::LENGTH {
         return NO_RECORD;
     }
     let unfit = refusals::is_unfit(image);
-    let beyond = refusals::beyond_pages(mem);
+    let misfit = refusals::no_lengths(low, high);
     let paged = refusals::is_paged(image, unfit);
-    let number = refusals::translate_refusal(unfit, beyond, paged, kind, a);
+    let number = refusals::translate_refusal(unfit, misfit, paged, kind, a);
     if number != 0 {
         return records::write_record(answer, Answer::Refused { number });
     }
@@ -125,10 +155,10 @@ pub fn translate_into(
             if serve(image, answer, at, Page4K::LENGTH, access, a) {
                 return 0;
             }
-            look_through(image, answer, mem, access, a)
+            look_through(image, answer, low, high, access, a)
         }
-        Start::Middle => look_middle(image, answer, mem, access, a),
-        Start::Large => look_large(image, answer, mem, access, a),
-        Start::Nowhere => missed(image, answer, mem, access, a),
+        Start::Middle => look_middle(image, answer, low, high, access, a),
+        Start::Large => look_large(image, answer, low, high, access, a),
+        Start::Nowhere => missed(image, answer, low, high, access, a),
     }
 }

@@ -63,7 +63,8 @@ fn perform(order: Order, image: &mut [u8], mem: &mut [u8], answer: &mut [u8])
             records::write_record(answer, calls::invpcid(image, kind, pcid, address));
         }
         Order::Translate { kind, address } => {
-            direct::translate_into(image, mem, kind, address, 0, answer);
+            let mut high = [0u8; 0];
+            direct::translate_into(image, mem, &mut high, kind, address, 0, answer);
         }
         Order::Put { address, word } => store(mem, answer, address, word),
         Order::Bad => records::put(answer, BAD, 0, 0, 0),

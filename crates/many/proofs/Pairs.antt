@@ -9,14 +9,16 @@ use native.Mathlib.Nat.{sub-zero, sub-self}
 use lib.ListN.{length, take, drop, length-append, length-drop}
 use lib.Dec.{ltb, eqb}
 use lib.Seq.{take-at, take-all, length-take-le}
-use borrow.Author.Tests.{eqb-true, not-false}
+use borrow.Author.Tests.{eqb-true, ltb-false, not-false}
 use Rattle.rules.specs.Bits.{AreBytes, wordAt}
 use Rattle.rules.specs.Memory.{Memory}
 use Rattle.rules.specs.Image.{pg}
 use Rattle.rules.specs.Refusals.{translate}
 use Rattle.rules.specs.Calls.{Left, call, written}
 use Rattle.rules.specs.Many.{pairAt, pairsFrom, asks, Made, before, made, noPairs}
-use Rattle.rules.proofs.BoolLaws.{or-right}
+use Rattle.rules.proofs.BoolLaws.{or-left, or-right}
+use Rattle.rules.proofs.MemoryLaws.{SameLengths}
+use Rattle.rules.proofs.Grown.{call-grows}
 use Rattle.rules.proofs.FitLaws.{fit-stays, flags-stay, memory-stays}
 use Rattle.rules.proofs.ManyLaws.{one-pair, record-long}
 use Rattle.refusals.specs.Asked.{Asked}
@@ -35,12 +37,13 @@ pub none-taken : (ps rs b : List ℕ) (mem : Memory) (x : Bool) → x ≡ noPair
 none-taken ps rs b mem x e t = record { left = rw (← e, t) }
 
 -- ---- of n pairs i are done
-pub record Done (ps rs₀ b₀ : List ℕ) (mem₀ : Memory) (u : Bool) (x : ℕ) (p : Bool) (n : ℕ) (rs b : List ℕ) (mem : Memory) (i : ℕ) : Type 0 where
+pub record Done (ps rs₀ b₀ : List ℕ) (mem₀ : Memory) (u x p : Bool) (n : ℕ) (rs b : List ℕ) (mem : Memory) (i : ℕ) : Type 0 where
+  pub few : n ≤ 64
   pub high : i ≤ n
   pub size : length rs ≡ n * 32
   pub sameAnswers : length rs ≡ length rs₀
   pub sameImage : length b ≡ length b₀
-  pub sameMemory : length mem ≡ length mem₀
+  pub sameMemory : SameLengths mem mem₀
   pub bytes : AreBytes b
   pub asked : Asked b mem u x p
   pub left : before (take (i * 32) rs) (made (pairsFrom (n - i) i ps) b mem) ≡ made (pairsFrom n 0 ps) b₀ mem₀
@@ -48,27 +51,33 @@ pub record Done (ps rs₀ b₀ : List ℕ) (mem₀ : Memory) (u : Bool) (x : ℕ
 taken-size : (ps rs : List ℕ) → noPairs ps rs ≡ false → length rs ≡ length ps / 16 * 32
 taken-size ps rs h = eqb-true (length rs) (length ps / 16 * 32) (not-false (eqb (length rs) (length ps / 16 * 32)) (or-right (not (eqb (length ps % 16) 0) || ltb 64 (length ps / 16)) _ h))
 
-pub done-none : (ps rs b : List ℕ) (mem : Memory) (u y p : Bool) (x n : ℕ) → y ≡ noPairs ps rs → y ≡ false → n ≡ length ps / 16 → Asked b mem u x p → AreBytes b
+taken-few : (ps rs : List ℕ) → noPairs ps rs ≡ false → length ps / 16 ≤ 64
+taken-few ps rs h =
+    ltb-false 64 (length ps / 16)
+    (or-right (not (eqb (length ps % 16) 0)) _ (or-left (not (eqb (length ps % 16) 0) || ltb 64 (length ps / 16)) (not (eqb (length rs) (length ps / 16 * 32))) h))
+
+pub done-none : (ps rs b : List ℕ) (mem : Memory) (u x y p : Bool) (n : ℕ) → y ≡ noPairs ps rs → y ≡ false → n ≡ length ps / 16 → Asked b mem u x p → AreBytes b
     → Done ps rs b mem u x p n rs b mem 0
-done-none ps rs b mem u y p x n e t g asked bytes =
+done-none ps rs b mem u x y p n e t g asked bytes =
     record {
+      few = omega (arith, taken-few ps rs (sym e ∙ t));
       high = omega arith;
       size = taken-size ps rs (sym e ∙ t) ∙ ap (λ (z : ℕ). z * 32) (sym g);
       sameAnswers = refl;
       sameImage = refl;
-      sameMemory = refl;
+      sameMemory = record { low = refl; high = refl };
       bytes = bytes;
       asked = asked;
       left = rw sub-zero;
     }
 
 -- what was asked at first holds after a pair
-asked-still : (b : List ℕ) (mem : Memory) (u p : Bool) (x k a ac : ℕ) → AreBytes b → Asked b mem u x p
+asked-still : (b : List ℕ) (mem : Memory) (u x p : Bool) (k a ac : ℕ) → AreBytes b → Asked b mem u x p
     → Asked (call b mem (translate k a ac) .image) (call b mem (translate k a ac) .memory) u x p
-asked-still b mem u p x k a ac bytes h =
+asked-still b mem u x p k a ac bytes h =
     record {
       image = h .image ∙ sym (fit-stays b mem k a ac bytes);
-      memory = h .memory ∙ ap (λ (y : ℕ). y % 4096) (sym (memory-stays b mem k a ac));
+      memory = h .memory ∙ sym (memory-stays b mem k a ac);
       paging = λ e. h .paging e ∙ ap pg (sym (flags-stay b mem k a ac bytes));
     }
 
@@ -80,7 +89,7 @@ front i a b c h l =
 in-order : (r r′ : List ℕ) (m : Made) → before (r ++ r′) m ≡ before r (before r′ m)
 in-order r r′ m = ap (λ (y : List ℕ). record { records = y; image = m .image; memory = m .memory }) (append-assoc r r′ (m .records))
 
-module _ (ps rs₀ b₀ : List ℕ) (mem₀ : Memory) (u : Bool) (x : ℕ) (p : Bool) (n : ℕ) (rs b : List ℕ) (mem : Memory) (i : ℕ) (d : Done ps rs₀ b₀ mem₀ u x p n rs b mem i) where
+module _ (ps rs₀ b₀ : List ℕ) (mem₀ : Memory) (u x p : Bool) (n : ℕ) (rs b : List ℕ) (mem : Memory) (i : ℕ) (d : Done ps rs₀ b₀ mem₀ u x p n rs b mem i) where
   pub done-more : (k a : ℕ) (r b′ : List ℕ) (mem′ : Memory) (m : ℕ) → i < n → k ≡ wordAt ps (i * 16) → a ≡ wordAt ps (i * 16 + 8)
       → IntoRecord (translate k a 0) r b b′ mem mem′ m → length b′ ≡ length b → AreBytes b′
       → Done ps rs₀ b₀ mem₀ u x p n (take (i * 32) rs ++ (r ++ drop (i * 32 + 32 - i * 32) (drop (i * 32) rs))) b′ mem′ (i + 1)
@@ -94,16 +103,17 @@ module _ (ps rs₀ b₀ : List ℕ) (mem₀ : Memory) (u : Bool) (x : ℕ) (p : 
       let fits : i * 32 ≤ length rs = omega (arith, d .size) in
       let size : length (take (i * 32) rs ++ (r ++ drop (i * 32 + 32 - i * 32) (drop (i * 32) rs))) ≡ length rs =
       simp (length-append, length-drop, length-take-le (i * 32) rs fits, full) (omega (arith, d .size)) in
-      let memory-long : length mem′ ≡ length mem = ap length memory ∙ memory-stays b mem (pairAt ps i .kind) (pairAt ps i .address) 0 in
+      let lengths : SameLengths mem mem′ = rw memory (call-grows b mem (asks (pairAt ps i)) .lengths) in
       let rest : Made = made (pairsFrom (n - (i + 1)) (i + 1) ps) b′ mem′ in
       record {
+        few = d .few;
         high = omega arith;
         size = size ∙ d .size;
         sameAnswers = size ∙ d .sameAnswers;
         sameImage = long ∙ d .sameImage;
-        sameMemory = memory-long ∙ d .sameMemory;
+        sameMemory = record { low = sym (lengths .low) ∙ d .sameMemory .low; high = sym (lengths .high) ∙ d .sameMemory .high };
         bytes = bytes;
-        asked = subst (λ (y : List ℕ). Asked y mem′ u x p) (sym image) (subst (λ (z : Memory). Asked (call b mem (asks (pairAt ps i)) .image) z u x p) (sym memory) (asked-still b mem u p x (pairAt ps i .kind) (pairAt ps i .address) 0 (d .bytes) (d .asked)));
+        asked = subst (λ (y : List ℕ). Asked y mem′ u x p) (sym image) (subst (λ (z : Memory). Asked (call b mem (asks (pairAt ps i)) .image) z u x p) (sym memory) (asked-still b mem u x p (pairAt ps i .kind) (pairAt ps i .address) 0 (d .bytes) (d .asked)));
         left =
             ap (λ (y : List ℕ). before y rest) (front i rs r _ fits full)
             ∙ in-order (take (i * 32) rs) r rest

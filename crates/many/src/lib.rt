@@ -1,6 +1,7 @@
 // Translation of many addresses in one call: what each is answered, and what is left, are those of single calls made one by one.
 ghost use mathlib.Core.Path.{_≡_};
 ghost use lib.ListN.{length};
+ghost use Rattle.rules.specs.Memory.{both};
 ghost use Rattle.rules.specs.Refusals.{translate};
 ghost use Rattle.rules.specs.Many.{noPairs};
 ghost use Rattle.refusals.specs.Asked.{Asked};
@@ -29,17 +30,18 @@ fn no_pairs(pairs: &[u8], answers: &[u8]) -> bool
 fn pair(
     image: &mut [u8],
     answer: &mut [u8],
-    mem: &mut [u8],
+    low: &mut [u8],
+    high: &mut [u8],
     unfit: bool,
-    beyond: usize,
+    misfit: bool,
     paged: bool,
     kind: u64,
     a: u64,
 ) -> u64
-    requires { ⌜ (length (now answer) ≡ 32) × Asked (now image) (now mem) unfit beyond paged ⌝ }
-    ensures { λ r. ⌜ IntoRecord (translate kind a 0) (now (answer .exit)) (now (image .entry)) (now (image .exit)) (now (mem .entry)) (now (mem .exit)) r ⌝ }
+    requires { ⌜ (length (now answer) ≡ 32) × Asked (now image) (both (now low) (now high)) unfit misfit paged ⌝ }
+    ensures { λ r. ⌜ IntoRecord (translate kind a 0) (now (answer .exit)) (now (image .entry)) (now (image .exit)) (both (now (low .entry)) (now (high .entry))) (both (now (low .exit)) (now (high .exit))) r ⌝ }
 {
-    let number = refusals::translate_refusal(unfit, beyond, paged, kind, a);
+    let number = refusals::translate_refusal(unfit, misfit, paged, kind, a);
     if number != 0 {
         return records::write_record(answer, Answer::Refused { number });
     }
@@ -53,25 +55,31 @@ fn pair(
             if direct::serve(image, answer, at, Page4K::LENGTH, access, a) {
                 return 0;
             }
-            direct::look_through(image, answer, mem, access, a)
+            direct::look_through(image, answer, low, high, access, a)
         }
-        Start::Middle => direct::look_middle(image, answer, mem, access, a),
-        Start::Large => direct::look_large(image, answer, mem, access, a),
-        Start::Nowhere => direct::missed(image, answer, mem, access, a),
+        Start::Middle => direct::look_middle(image, answer, low, high, access, a),
+        Start::Large => direct::look_large(image, answer, low, high, access, a),
+        Start::Nowhere => direct::missed(image, answer, low, high, access, a),
     }
 }
 
 // Pairs of a kind and an address, 16 bytes each, and for each a record of 32 bytes. What is asked of image and guest memory alone is asked once: a pair leaves both as fit
 // as they were.
-pub fn translate_many(image: &mut [u8], mem: &mut [u8], pairs: &[u8], answers: &mut [u8]) -> u64
-    ensures { λ r. ⌜ TranslatesMany (now (pairs .entry)) (now (answers .entry)) (now (answers .exit)) (now (image .entry)) (now (image .exit)) (now (mem .entry)) (now (mem .exit)) r ⌝ }
+pub fn translate_many(
+    image: &mut [u8],
+    low: &mut [u8],
+    high: &mut [u8],
+    pairs: &[u8],
+    answers: &mut [u8],
+) -> u64
+    ensures { λ r. ⌜ TranslatesMany (now (pairs .entry)) (now (answers .entry)) (now (answers .exit)) (now (image .entry)) (now (image .exit)) (both (now (low .entry)) (now (high .entry))) (both (now (low .exit)) (now (high .exit))) r ⌝ }
 {
     if no_pairs(pairs, answers) {
         return NO_PAIRS;
     }
     let n = pairs.len() / 16;
     let unfit = refusals::is_unfit(image);
-    let beyond = refusals::beyond_pages(mem);
+    let misfit = refusals::no_lengths(low, high);
     let paged = refusals::is_paged(image, unfit);
     let mut i = 0;
     while i < n {
@@ -83,9 +91,10 @@ pub fn translate_many(image: &mut [u8], mem: &mut [u8], pairs: &[u8], answers: &
         pair(
             image,
             &mut answers[from..to],
-            mem,
+            low,
+            high,
             unfit,
-            beyond,
+            misfit,
             paged,
             kind,
             a,

@@ -4,11 +4,10 @@ use mathlib.Core.Path.{_≡_, refl, ap, sym, _∙_, subst}
 use mathlib.Core.Bool.{Bool, _&&_}
 use mathlib.Core.List.{List}
 use native.Mathlib.Omega.{arith}
-use lib.ListN.{length}
 use Rattle.rules.specs.Bits.{isOn, part, wordAt}
 use Rattle.rules.specs.Sizes.{Is, is-small, is-middle, is-large, sizeAt, pageNumber}
 use Rattle.rules.specs.Image.{encode, decode, control, tagOf, datumOf, IsImage}
-use Rattle.rules.specs.Memory.{Memory, entryAt}
+use Rattle.rules.specs.Memory.{Memory, entryAt, Whole}
 use Rattle.rules.specs.Walk.{Walked, walk, reachIn}
 use Rattle.rules.specs.Buffer.{filled}
 use Rattle.rules.specs.Answers.{tellsFetch, code, answerOf}
@@ -41,7 +40,7 @@ pub control-is : (b : List ℕ) (w f v n p : ℕ) → w ≡ wordAt b 0 → f ≡
 control-is b w f v n p hw hf hv hn sp =
     rw (← sp .current) (rw (width-at b, flags-at b, cr3-at b, ← hw, ← hf, ← hv, ← hn))
 
-pub walk-ready : (b : List ℕ) (mem : Memory) (c : Control) → Usable b → length mem % 8 ≡ 0 → c ≡ control (decode b) → Ready c mem
+pub walk-ready : (b : List ℕ) (mem : Memory) (c : Control) → Usable b → Whole mem → c ≡ control (decode b) → Ready c mem
 walk-ready b mem c u h e =
     record {
       wide = rw e (u .wide);

@@ -3,6 +3,7 @@ ghost use mathlib.Core.Path.{_≡_};
 ghost use Prim.Native.Nat.{_%_, _^_, _<_};
 ghost use lib.ListN.{length};
 ghost use Rattle.rules.specs.Image.{encode, decode, control, IsImage};
+ghost use Rattle.rules.specs.Memory.{both, Whole};
 ghost use Rattle.rules.specs.Buffer.{filled};
 ghost use Rattle.rules.specs.Sizes.{Is};
 ghost use Rattle.rules.specs.declared.Found.the-variants.{Page};
@@ -82,12 +83,12 @@ fn finish(image: &mut [u8], flags: u64, access: u64, a: u64, f: Found) -> Answer
 }
 
 // The walk is made, and finished.
-pub fn walked(image: &mut [u8], mem: &mut [u8], access: u64, a: u64) -> Answer
-    requires { ⌜ Usable (now image) × ((length (now mem) % 8 ≡ 0) × Known (decode (now image) .flags) access) ⌝ }
-    ensures { λ r. ⌜ ForEach (decode (now (image .entry)) .flags) access (λ k. Encodes (missed (decode (now (image .entry))) (now (mem .entry)) k a) (now (image .exit)) (now (mem .exit)) r) ⌝ }
+pub fn walked(image: &mut [u8], low: &mut [u8], high: &mut [u8], access: u64, a: u64) -> Answer
+    requires { ⌜ Usable (now image) × (Whole (both (now low) (now high)) × Known (decode (now image) .flags) access) ⌝ }
+    ensures { λ r. ⌜ ForEach (decode (now (image .entry)) .flags) access (λ k. Encodes (missed (decode (now (image .entry))) (both (now (low .entry)) (now (high .entry))) k a) (now (image .exit)) (both (now (low .exit)) (now (high .exit))) r) ⌝ }
 {
     let c = control_of(image);
-    let f = walk::walk(mem, c, access, a);
+    let f = walk::walk(low, high, c, access, a);
     finish(image, c.flags, access, a, f)
 }
 

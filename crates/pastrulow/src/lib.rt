@@ -1,6 +1,7 @@
 // The door for a host in C, which sees each slice as a pointer and then a length. A call answers in the 32 lent bytes and returns the refusal
 // number, or 0; where the answer bytes are not 32, it returns 1 and touches nothing. A call for many answers in 32 bytes a pair, and returns 10 or 0.
 ghost use mathlib.Core.Path.{_≡_};
+ghost use Rattle.rules.specs.Memory.{both};
 ghost use Rattle.rules.specs.Refusals.{start, translate, invlpg, invpcid, writeCr3, writeMode};
 ghost use Rattle.journal.specs.Calls.{Clears, Reports};
 ghost use Rattle.direct.specs.Contract.{TranslatesInto};
@@ -12,7 +13,7 @@ use translator::calls;
 const NO_RECORD: u64 = 1;
 
 // The header has the same number, for a host to compare.
-const VERSION: u64 = 3;
+const VERSION: u64 = 4;
 
 // The width is the physical width M, 36 to 52.
 #[no_mangle]
@@ -29,28 +30,30 @@ pub extern "C" fn pastrulow_start(image: &mut [u8], width: u64, answer: &mut [u8
 #[no_mangle]
 pub extern "C" fn pastrulow_translate(
     image: &mut [u8],
-    memory: &mut [u8],
+    low: &mut [u8],
+    high: &mut [u8],
     kind: u64,
     address: u64,
     ac: u64,
     answer: &mut [u8],
 ) -> u64
-    ensures { λ r. ⌜ TranslatesInto (translate kind address ac) (now (answer .entry)) (now (answer .exit)) (now (image .entry)) (now (image .exit)) (now (memory .entry)) (now (memory .exit)) r ⌝ }
+    ensures { λ r. ⌜ TranslatesInto (translate kind address ac) (now (answer .entry)) (now (answer .exit)) (now (image .entry)) (now (image .exit)) (both (now (low .entry)) (now (high .entry))) (both (now (low .exit)) (now (high .exit))) r ⌝ }
 {
-    direct::translate_into(image, memory, kind, address, ac, answer)
+    direct::translate_into(image, low, high, kind, address, ac, answer)
 }
 
 // The pairs are of a kind and an address, 16 bytes each, and AC is 0; the answers are as many records.
 #[no_mangle]
 pub extern "C" fn pastrulow_translate_many(
     image: &mut [u8],
-    memory: &mut [u8],
+    low: &mut [u8],
+    high: &mut [u8],
     pairs: &[u8],
     answers: &mut [u8],
 ) -> u64
-    ensures { λ r. ⌜ TranslatesMany (now (pairs .entry)) (now (answers .entry)) (now (answers .exit)) (now (image .entry)) (now (image .exit)) (now (memory .entry)) (now (memory .exit)) r ⌝ }
+    ensures { λ r. ⌜ TranslatesMany (now (pairs .entry)) (now (answers .entry)) (now (answers .exit)) (now (image .entry)) (now (image .exit)) (both (now (low .entry)) (now (high .entry))) (both (now (low .exit)) (now (high .exit))) r ⌝ }
 {
-    many::translate_many(image, memory, pairs, answers)
+    many::translate_many(image, low, high, pairs, answers)
 }
 
 #[no_mangle]

@@ -1,8 +1,8 @@
 -- The ways through the checks: what each return has to show, from the tests on its way. The image's words are read where its parts stand.
 use Prim.Native.Nat.{ℕ, _+_, _-_, _/_, _%_, _^_, _≤_, _<_}
-use mathlib.Core.Path.{_≡_, ap, sym, _∙_}
+use mathlib.Core.Path.{_≡_, refl, ap, sym, _∙_}
 use mathlib.Core.Bool.{Bool, true, false, true≢false, cond, _&&_, _||_, not, or-true, or-false}
-use mathlib.Core.List.{List, []}
+use mathlib.Core.List.{List}
 use native.Mathlib.Omega.{arith}
 use native.Mathlib.Decide.{decLt}
 use lib.ListN.{length, take, drop, length-drop}
@@ -11,9 +11,10 @@ use lib.Dec.{eqb, leb, ltb}
 use borrow.Author.Tests.{eq-eqb, ne-eqb, lt-ltb, le-ltb, le-leb, lt-leb}
 use Rattle.rules.specs.Bits.{wordsOf, isOn, part, wordAt}
 use Rattle.rules.specs.Image.{decode, control, pg}
-use Rattle.rules.specs.Memory.{Memory}
+use Rattle.rules.specs.Memory.{Memory, empty}
 use Rattle.rules.specs.Refusals.{start, translate, canonical, isLong, isOutside, allZero, noFlags, isUnfit, noAddress, noCr3, noMode, noInvpcid, refusal}
 use Rattle.rules.specs.declared.Control.{Control}
+use Rattle.rules.proofs.BoolLaws.{or-left, or-right}
 use Rattle.rules.proofs.WordLaws.{zero-tail}
 use Rattle.rules.proofs.PlaceLaws.{width-at, flags-at, cr3-at, victims-at}
 use Rattle.rules.proofs.RefusalLaws.{fit}
@@ -110,13 +111,13 @@ pub width-low : (b : List ℕ) (w : ℕ) → decode b .width ≤ 52 → w ≡ wo
 width-low b w h e = omega (arith, width-at b)
 
 -- ---- the lowest that applies
-pub long-enough : (b : List ℕ) (w : ℕ) → (length b ≡ 2048 → ⊥) → 2 ≡ refusal b [] (start w)
+pub long-enough : (b : List ℕ) (w : ℕ) → (length b ≡ 2048 → ⊥) → 2 ≡ refusal b empty (start w)
 long-enough b w h = rw (ne-eqb (length b) 2048 h)
 
-pub start-outside : (b : List ℕ) (w : ℕ) (o : Bool) → length b ≡ 2048 → o ≡ isOutside w → o ≡ true → 2 ≡ refusal b [] (start w)
+pub start-outside : (b : List ℕ) (w : ℕ) (o : Bool) → length b ≡ 2048 → o ≡ isOutside w → o ≡ true → 2 ≡ refusal b empty (start w)
 start-outside b w o h e t = rw (eq-eqb (length b) 2048 h, ← e, t)
 
-pub start-fits : (b : List ℕ) (w : ℕ) (o : Bool) → length b ≡ 2048 → o ≡ isOutside w → o ≡ false → 0 ≡ refusal b [] (start w)
+pub start-fits : (b : List ℕ) (w : ℕ) (o : Bool) → length b ≡ 2048 → o ≡ isOutside w → o ≡ false → 0 ≡ refusal b empty (start w)
 start-fits b w o h e t = rw (eq-eqb (length b) 2048 h, ← e, t)
 
 pub at-first : (u o : Bool) (x : ℕ) → o ≡ u → o ≡ true → _≡_ {A = ℕ} 2 (cond u 2 x)
@@ -131,17 +132,29 @@ at-neither u v o p n e t g y = rw (← e, t, ← g, y)
 pub at-none : (u o : Bool) → o ≡ u → o ≡ false → _≡_ {A = ℕ} 0 (cond u 2 0)
 at-none u o e t = rw (← e, t)
 
-module _ (b : List ℕ) (mem : Memory) (k a ac m : ℕ) (u p : Bool) (asked : Asked b mem u m p) where
-  pub by-image : u ≡ true → 2 ≡ refusal b mem (translate k a ac)
-  by-image t = rw (← asked .image, t)
+-- of translate's first three one applies, or none does
+module _ (u : Bool) (k : ℕ) (fits : u ≡ false) where
+  pub no-kind : 5 < k → _≡_ {A = ℕ} 3 (cond u 2 (cond (ltb 5 k) 3 4))
+  no-kind h = rw (fits, lt-ltb 5 k h)
 
-  module _ (fits : u ≡ false) where
-    pub no-kind : 5 < k → 3 ≡ refusal b mem (translate k a ac)
-    no-kind h = rw (← asked .image, fits, lt-ltb 5 k h)
+  pub no-memory : k ≤ 5 → _≡_ {A = ℕ} 4 (cond u 2 (cond (ltb 5 k) 3 4))
+  no-memory h = rw (fits, le-ltb 5 k h)
 
-    pub ragged : k ≤ 5 → (m ≡ 0 → ⊥) → 4 ≡ refusal b mem (translate k a ac)
-    ragged h r = rw (← asked .image, fits, le-ltb 5 k h, ← asked .memory, ne-eqb m 0 r)
+one-of : (u q m : Bool) (x : ℕ) → (u || q || m) ≡ true → cond u 2 (cond q 3 4) ≡ cond u 2 (cond q 3 (cond m 4 x))
+one-of true q m x h = refl
+one-of false true m x h = refl
+one-of false false true x h = refl
+one-of false false false x h = absurd (true≢false (sym h))
 
-    pub by-address : k ≤ 5 → m ≡ 0 → (n : ℕ) → ((c : List ℕ) → p ≡ pg (decode c .flags) → n ≡ cond (noAddress (decode c) a) 5 0)
-        → n ≡ refusal b mem (translate k a ac)
-    by-address h r n g = rw (← asked .image, fits, le-ltb 5 k h, ← asked .memory, eq-eqb m 0 r) (g b (asked .paging fits))
+none-of : (u q m : Bool) (x : ℕ) → (u || q || m) ≡ false → x ≡ cond u 2 (cond q 3 (cond m 4 x))
+none-of u q m x h = rw (or-left u q (or-left (u || q) m h), or-right u q (or-left (u || q) m h), or-right (u || q) m h)
+
+module _ (b : List ℕ) (mem : Memory) (k a ac : ℕ) (u m p : Bool) (asked : Asked b mem u m p) where
+  pub by-first : (u || ltb 5 k || m) ≡ true → (n : ℕ) → n ≡ cond u 2 (cond (ltb 5 k) 3 4) → n ≡ refusal b mem (translate k a ac)
+  by-first h n e = e ∙ rw (← asked .image, ← asked .memory) (one-of u (ltb 5 k) m (cond (noAddress (decode b) a) 5 0) h)
+
+  pub by-address : (u || ltb 5 k || m) ≡ false → (n : ℕ) → ((c : List ℕ) → p ≡ pg (decode c .flags) → n ≡ cond (noAddress (decode c) a) 5 0)
+      → n ≡ refusal b mem (translate k a ac)
+  by-address h n g =
+      g b (asked .paging (or-left u (ltb 5 k) (or-left (u || ltb 5 k) m h)))
+      ∙ rw (← asked .image, ← asked .memory) (none-of u (ltb 5 k) m (cond (noAddress (decode b) a) 5 0) h)

@@ -1,11 +1,12 @@
 // Which calls are refused: the lowest number that applies to a call, or 0.
 ghost use mathlib.Core.Path.{_≡_};
-ghost use Prim.Native.Nat.{ℕ, _%_, _≤_};
+ghost use Prim.Native.Nat.{ℕ, _≤_};
 ghost use mathlib.Core.Bool.{false, cond};
-ghost use mathlib.Core.List.{List, []};
+ghost use mathlib.Core.List.{List};
 ghost use lib.ListN.{length};
+ghost use lib.Dec.{ltb};
 ghost use Rattle.rules.specs.Image.{decode, pg};
-ghost use Rattle.rules.specs.Memory.{Memory};
+ghost use Rattle.rules.specs.Memory.{Memory, both, empty, noLengths};
 ghost use Rattle.rules.specs.Refusals.{start, translate, invlpg, invpcid, writeCr3, writeMode, canonical, isOutside, noFlags, isUnfit, noAddress, noCr3, noMode, noInvpcid, refusal};
 ghost use Rattle.rules.specs.declared.Control.{Control};
 ghost use Rattle.refusals.specs.Asked.{Asked};
@@ -96,7 +97,7 @@ fn no_invpcid(image: &[u8], kind: u64, pcid: u64, a: u64) -> bool
 }
 
 pub fn start_refusal(image: &[u8], width: u64) -> u64
-    ensures { λ r. ⌜ r ≡ refusal (now (image .entry)) [] (start width) ⌝ }
+    ensures { λ r. ⌜ r ≡ refusal (now (image .entry)) empty (start width) ⌝ }
 {
     if image.len() != 2048 {
         return 2;
@@ -107,11 +108,11 @@ pub fn start_refusal(image: &[u8], width: u64) -> u64
     0
 }
 
-// How many bytes of guest memory fill no page.
-pub fn beyond_pages(mem: &[u8]) -> usize
-    ensures { λ r. ⌜ r ≡ length (now (mem .entry)) % 4096 ⌝ }
+// Bytes that fill no page, in either part of guest memory, or too many of them in low.
+pub fn no_lengths(low: &[u8], high: &[u8]) -> bool
+    ensures { λ r. ⌜ r ≡ noLengths (both (now (low .entry)) (now (high .entry))) ⌝ }
 {
-    mem.len() % 4096
+    (low.len() % 4096 != 0) | (high.len() % 4096 != 0) | (0xB000_0000 < low.len())
 }
 
 // Whether paging is on, of an image that is fit.
@@ -125,9 +126,9 @@ pub fn is_paged(image: &[u8], unfit: bool) -> bool
     words::is_on(0, words::read_word(image, 8))
 }
 
-// What is alike for every address the caller has asked already, once for as many as it asks for.
-pub fn translate_refusal(unfit: bool, beyond: usize, paged: bool, kind: u64, a: u64) -> u64
-    ensures { λ r. ⌜ ((b : List ℕ) (mem : Memory) (ac : ℕ) → Asked b mem unfit beyond paged → r ≡ refusal b mem (translate kind a ac)) ⌝ }
+// The lowest refusal of image, kind and guest memory, where there is one.
+fn first_refusal(unfit: bool, kind: u64) -> u64
+    ensures { λ r. ⌜ r ≡ cond unfit 2 (cond (ltb 5 kind) 3 4) ⌝ }
 {
     if unfit {
         return 2;
@@ -135,14 +136,21 @@ pub fn translate_refusal(unfit: bool, beyond: usize, paged: bool, kind: u64, a: 
     if 5 < kind {
         return 3;
     }
-    if beyond != 0 {
-        return 4;
+    4
+}
+
+// What is alike for every address the caller has asked already, once for as many as it asks for. Which refusal it is, is worked out only where there is one.
+pub fn translate_refusal(unfit: bool, misfit: bool, paged: bool, kind: u64, a: u64) -> u64
+    ensures { λ r. ⌜ ((b : List ℕ) (mem : Memory) (ac : ℕ) → Asked b mem unfit misfit paged → r ≡ refusal b mem (translate kind a ac)) ⌝ }
+{
+    if unfit | (5 < kind) | misfit {
+        return first_refusal(unfit, kind);
     }
     address_refusal(paged, a)
 }
 
 pub fn invlpg_refusal(image: &[u8], a: u64) -> u64
-    ensures { λ r. ⌜ r ≡ refusal (now (image .entry)) [] (invlpg a) ⌝ }
+    ensures { λ r. ⌜ r ≡ refusal (now (image .entry)) empty (invlpg a) ⌝ }
 {
     if is_unfit(image) {
         return 2;
@@ -151,7 +159,7 @@ pub fn invlpg_refusal(image: &[u8], a: u64) -> u64
 }
 
 pub fn invpcid_refusal(image: &[u8], kind: u64, pcid: u64, a: u64) -> u64
-    ensures { λ r. ⌜ r ≡ refusal (now (image .entry)) [] (invpcid kind pcid a) ⌝ }
+    ensures { λ r. ⌜ r ≡ refusal (now (image .entry)) empty (invpcid kind pcid a) ⌝ }
 {
     if is_unfit(image) {
         return 2;
@@ -163,7 +171,7 @@ pub fn invpcid_refusal(image: &[u8], kind: u64, pcid: u64, a: u64) -> u64
 }
 
 pub fn cr3_refusal(image: &[u8], value: u64) -> u64
-    ensures { λ r. ⌜ r ≡ refusal (now (image .entry)) [] (writeCr3 value) ⌝ }
+    ensures { λ r. ⌜ r ≡ refusal (now (image .entry)) empty (writeCr3 value) ⌝ }
 {
     if is_unfit(image) {
         return 2;
@@ -175,7 +183,7 @@ pub fn cr3_refusal(image: &[u8], value: u64) -> u64
 }
 
 pub fn mode_refusal(image: &[u8], value: u64) -> u64
-    ensures { λ r. ⌜ r ≡ refusal (now (image .entry)) [] (writeMode value) ⌝ }
+    ensures { λ r. ⌜ r ≡ refusal (now (image .entry)) empty (writeMode value) ⌝ }
 {
     if is_unfit(image) {
         return 2;

@@ -7,7 +7,7 @@ use mathlib.Core.List.{List}
 use native.Mathlib.Omega.{arith}
 use lib.ListN.{length, take, drop, take-append-drop, length-drop, drop-of-length-le}
 use lib.Seq.{drop-drop, take-all}
-use Rattle.rules.specs.Memory.{Memory}
+use Rattle.trace.specs.Does.{Low}
 use Rattle.trace.specs.Pieces.{Run, Step, isOver, bytes, Taken, taking}
 use Rattle.trace.proofs.RunLaws.{bytes-append, over}
 use Rattle.trace.proofs.Taking.{takes}
@@ -16,7 +16,7 @@ use Rattle.runs.specs.declared.Fed.{Fed}
 use Rattle.runs.specs.Feeding.{runOf, Feeds}
 use Rattle.replay.specs.Fed.{TakesAll}
 
-pub record Feeding (r₀ : RunOf) (b₀ : List ℕ) (mem₀ : Memory) (kept₀ piece out₀ : List ℕ) (b : List ℕ) (mem : Memory) (kept out : List ℕ) (r : RunOf) (at : ℕ) : Type 0 where
+pub record Feeding (r₀ : RunOf) (b₀ : List ℕ) (mem₀ : Low) (kept₀ piece out₀ : List ℕ) (b : List ℕ) (mem : Low) (kept out : List ℕ) (r : RunOf) (at : ℕ) : Type 0 where
   pub sameImage : length b ≡ length b₀
   pub sameMemory : length mem ≡ length mem₀
   pub sameOut : length out ≡ length out₀
@@ -24,7 +24,7 @@ pub record Feeding (r₀ : RunOf) (b₀ : List ℕ) (mem₀ : Memory) (kept₀ p
   pub high : at ≤ length piece
   pub rest : bytes (runOf r kept b mem) (drop at piece) .run ≡ bytes (runOf r₀ kept₀ b₀ mem₀) piece .run
 
-pub feeding-none : (r : RunOf) (b : List ℕ) (mem : Memory) (kept piece out : List ℕ) → 80 ≤ length out → Feeding r b mem kept piece out b mem kept out r 0
+pub feeding-none : (r : RunOf) (b : List ℕ) (mem : Low) (kept piece out : List ℕ) → 80 ≤ length out → Feeding r b mem kept piece out b mem kept out r 0
 feeding-none r b mem kept piece out h =
     record { sameImage = refl; sameMemory = refl; sameOut = refl; roomy = h; high = omega arith; rest = refl }
 
@@ -48,8 +48,8 @@ stays : (left : ℕ) (r : Run) (p : List ℕ) → taking left r p .taken ≡ 0 �
 unfolding bytes
 stays left r p e = ap (λ (s : Step). s .run) (takes left r p .start) ∙ rw e
 
-module _ (r₀ : RunOf) (b₀ : List ℕ) (mem₀ : Memory) (kept₀ piece out₀ : List ℕ) (b : List ℕ) (mem : Memory) (kept out : List ℕ) (r : RunOf) (at : ℕ)
-    (h : Feeding r₀ b₀ mem₀ kept₀ piece out₀ b mem kept out r at) (b′ : List ℕ) (mem′ : Memory) (kept′ out′ : List ℕ) (f : Fed) (some : at < length piece)
+module _ (r₀ : RunOf) (b₀ : List ℕ) (mem₀ : Low) (kept₀ piece out₀ : List ℕ) (b : List ℕ) (mem : Low) (kept out : List ℕ) (r : RunOf) (at : ℕ)
+    (h : Feeding r₀ b₀ mem₀ kept₀ piece out₀ b mem kept out r at) (b′ : List ℕ) (mem′ : Low) (kept′ out′ : List ℕ) (f : Fed) (some : at < length piece)
     (lent : Feeds r b b′ mem mem′ kept kept′ (take (length piece - at) (drop at piece)) out out′ f) where
   -- what is lent from a place on is all that follows
   d : Feeds r b b′ mem mem′ kept kept′ (drop at piece) out out′ f
@@ -85,11 +85,11 @@ module _ (r₀ : RunOf) (b₀ : List ℕ) (mem₀ : Memory) (kept₀ piece out�
             ∙ h .rest;
       }
 
-pub feeding-all : (r₀ : RunOf) (b₀ : List ℕ) (mem₀ : Memory) (kept₀ piece out₀ : List ℕ) (b : List ℕ) (mem : Memory) (kept out : List ℕ) (r : RunOf) (at : ℕ)
+pub feeding-all : (r₀ : RunOf) (b₀ : List ℕ) (mem₀ : Low) (kept₀ piece out₀ : List ℕ) (b : List ℕ) (mem : Low) (kept out : List ℕ) (r : RunOf) (at : ℕ)
     → Feeding r₀ b₀ mem₀ kept₀ piece out₀ b mem kept out r at → length piece ≤ at → TakesAll r₀ (record { run = r; whole = true }) b₀ b mem₀ mem kept₀ kept piece
 unfolding bytes
 feeding-all r₀ b₀ mem₀ kept₀ piece out₀ b mem kept out r at h e = record { run = λ t. rw (drop-of-length-le piece e) at (h .rest) }
 
 -- nothing is claimed where a write failed
-pub feeding-lost : (r₀ r : RunOf) (b₀ b : List ℕ) (mem₀ mem : Memory) (kept₀ kept piece : List ℕ) → TakesAll r₀ (record { run = r; whole = false }) b₀ b mem₀ mem kept₀ kept piece
+pub feeding-lost : (r₀ r : RunOf) (b₀ b : List ℕ) (mem₀ mem : Low) (kept₀ kept piece : List ℕ) → TakesAll r₀ (record { run = r; whole = false }) b₀ b mem₀ mem kept₀ kept piece
 feeding-lost r₀ r b₀ b mem₀ mem kept₀ kept piece = record { run = λ t. absurd (true≢false (sym t)) }

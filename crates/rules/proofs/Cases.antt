@@ -7,7 +7,7 @@ use mathlib.Core.List.{List, [], _∷_, _++_, map}
 use lib.ListN.{replicate}
 use lib.Dec.{eqb}
 use Rattle.rules.specs.Image.{Slot, decode}
-use Rattle.rules.specs.Memory.{entryAt}
+use Rattle.rules.specs.Memory.{Memory, entryAt}
 use Rattle.rules.specs.Answers.{numbers}
 use Rattle.rules.specs.Refusals.{Request, start, writeCr3, writeMode}
 use Rattle.rules.specs.Calls.{Outcome, call}
@@ -46,7 +46,7 @@ abbrev kept : ℕ → (ℕ → Slot) → List ℕ → List ℕ
 kept zero f found = found
 kept (suc n) f found = kept n f (cond (isNone (f n)) found (n ∷ found))
 
-abbrev pub seen : List ℕ → List ℕ → List Look → List ℕ
+abbrev pub seen : List ℕ → Memory → List Look → List ℕ
 seen b mem [] = []
 seen b mem (a holds w ∷ ls) = entryAt mem a ∷ seen b mem ls
 seen b mem (victims v ∷ ls) = decode b .victims ∷ seen b mem ls
@@ -76,7 +76,7 @@ then cs ls = record { calls = cs; looks = ls }
 
 pub record Case : Type 0 where
   pub image : List ℕ
-  pub memory : List ℕ
+  pub memory : Memory
   pub calls : List Call
   pub endings : List Ending
 
@@ -91,9 +91,9 @@ ready = start 40 gives Done ∷ writeCr3 0x1000 gives Done ∷ writeMode 23 give
 pub record Ran : Type 0 where
   pub answers : List ℕ
   pub image : List ℕ
-  pub memory : List ℕ
+  pub memory : Memory
 
-abbrev pub run : List ℕ → List ℕ → List Call → Ran
+abbrev pub run : List ℕ → Memory → List Call → Ran
 run b mem [] = record { answers = []; image = b; memory = mem }
 run b mem (c ∷ cs) =
     let o : Outcome = call b mem (c .request) in

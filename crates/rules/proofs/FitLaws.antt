@@ -1,4 +1,4 @@
--- What a translate leaves can be lent to the next one: an image that was fit stays fit, and one that was not stays as it is; its flags stay, and memory keeps its length.
+-- What a translate leaves can be lent to the next one: an image that was fit stays fit, and one that was not stays as it is; its flags stay, and memory keeps its lengths.
 -- A walk moves a victim on within its two bits and touches no other named word; the slots fit theirs by `SoundLaws`.
 use Prim.Native.Nat.{ℕ, _^_, _≤_, _<_}
 use mathlib.Core.Path.{_≡_, refl, ap, sym, _∙_}
@@ -9,11 +9,12 @@ use lib.ListN.{length}
 use borrow.Author.Tests.{eq-eqb, le-ltb, lt-leb}
 use Rattle.rules.specs.Bits.{AreBytes}
 use Rattle.rules.specs.Image.{Image, encode, decode, Sound}
-use Rattle.rules.specs.Memory.{Memory}
+use Rattle.rules.specs.Memory.{Memory, noLengths}
 use Rattle.rules.specs.Refusals.{translate, isUnfit, refusal}
 use Rattle.rules.specs.Calls.{After, accessOf, accepted, Outcome, call}
 use Rattle.rules.specs.declared.Access.{Access}
 use Rattle.rules.proofs.ImageLaws.{encode-length, encode-tail, decode-encode}
+use Rattle.rules.proofs.MemoryLaws.{lengths-stay}
 use Rattle.rules.proofs.RefusalLaws.{Fit, given}
 use Rattle.rules.proofs.CallWays.{Called, taken, refused, called, Way, unpaged, answered, walks, way, walked-cases}
 use Rattle.rules.proofs.Grown.{call-grows}
@@ -91,5 +92,5 @@ flags-stay b mem k a ac bytes = go (called b mem (translate k a ac))
         ∙ way-flags (decode b) mem (accessOf k ac) a (way (decode b) mem (accessOf k ac) a)
     go (refused n e) = refl
 
-pub memory-stays : (b : List ℕ) (mem : Memory) (k a ac : ℕ) → length (call b mem (translate k a ac) .memory) ≡ length mem
-memory-stays b mem k a ac = sym (call-grows b mem (translate k a ac) .size)
+pub memory-stays : (b : List ℕ) (mem : Memory) (k a ac : ℕ) → noLengths (call b mem (translate k a ac) .memory) ≡ noLengths mem
+memory-stays b mem k a ac = lengths-stay mem _ (call-grows b mem (translate k a ac) .lengths)

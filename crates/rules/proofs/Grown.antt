@@ -1,12 +1,11 @@
 -- A walk only adds bits 5 and 6 to entries of memory, so memory after it holds every entry as it was but for those bits, none of them taken
 -- away, through every call, and any walk made again ends alike. Entries stand at multiples of 8, so that two of them are one or share no byte.
-use Prim.Native.Nat.{ℕ, zero, suc, _+_, _-_, _*_, _/_, _%_, _^_, _≤_, _<_}
+use Prim.Native.Nat.{ℕ, zero, suc, _+_, _-_, _*_, _%_, _^_, _≤_, _<_}
 use mathlib.Core.Path.{_≡_, refl, ap, sym, _∙_, subst}
 use mathlib.Core.Bool.{Bool, true, false}
 use mathlib.Core.List.{List, [], _∷_}
 use native.Mathlib.Omega.{arith}
 use native.Mathlib.Decide.{ℕ-discrete}
-use lib.ListN.{length}
 use lib.Pow.{mod-mod-pow}
 use Rattle.rules.specs.Bits.{isOn, part, withBit}
 use Rattle.rules.specs.Image.{Image, decode, root, control}
@@ -20,7 +19,7 @@ use Rattle.rules.specs.declared.Access.{Access}
 use Rattle.rules.specs.declared.Rights.{Rights}
 use Rattle.rules.proofs.BoolLaws.{either}
 use Rattle.rules.proofs.BitLaws.{above, set-above, set-below, set-keeps, part-multiple}
-use Rattle.rules.proofs.MemoryLaws.{added-length, same-entry, other-entry}
+use Rattle.rules.proofs.MemoryLaws.{SameLengths, added-lengths, same-entry, other-entry}
 use Rattle.rules.proofs.Alike.{AllOf, Alike, SameIndex, reach-alike, ButMarks, Agree, blind}
 use Rattle.rules.proofs.WalkLaws.{endLevel}
 use Rattle.rules.proofs.CallWays.{Called, taken, refused, called, Way, unpaged, answered, walks, way}
@@ -78,28 +77,25 @@ set-marks k x h g =
 
 -- ---- memory that holds every entry as it was but for bits 5 and 6 added
 pub record Grown (mem mem′ : Memory) : Type 0 where
-  pub size : length mem ≡ length mem′
+  pub lengths : SameLengths mem mem′
   pub entries : (at : ℕ) → Eight at → ButMarks (entryAt mem at) (entryAt mem′ at)
   pub stays : (k at : ℕ) → Eight at → isOn k (entryAt mem at) ≡ true → isOn k (entryAt mem′ at) ≡ true
 
 pub grown-none : (mem : Memory) → Grown mem mem
-grown-none mem = record { size = refl; entries = λ at h. record { high = refl; low = refl }; stays = λ k at h on. on }
+grown-none mem = record { lengths = record { low = refl; high = refl }; entries = λ at h. record { high = refl; low = refl }; stays = λ k at h on. on }
 
 pub grown-on : (m₁ m₂ m₃ : Memory) → Grown m₁ m₂ → Grown m₂ m₃ → Grown m₁ m₃
 grown-on m₁ m₂ m₃ g h =
     record {
-      size = g .size ∙ h .size;
+      lengths = record { low = g .lengths .low ∙ h .lengths .low; high = g .lengths .high ∙ h .lengths .high };
       entries = λ at e. record { high = g .entries at e .high ∙ h .entries at e .high; low = g .entries at e .low ∙ h .entries at e .low };
       stays = λ k at e on. h .stays k at e (g .stays k at e on);
     }
 
-eight-is : (x : ℕ) → Eight x → x ≡ 8 * (x / 8)
-eight-is x h = omega arith
-
 pub grown-added : (k a : ℕ) (mem : Memory) → 5 ≤ k → k < 7 → Eight a → Grown mem (added k a mem)
 grown-added k a mem h g ea =
     record {
-      size = sym (added-length k a mem);
+      lengths = added-lengths k a mem;
       entries = λ at e. go at e (λ x. ButMarks (entryAt mem at) x) (λ q. rw (← q) (set-marks k (entryAt mem a) h g)) (record { high = refl; low = refl });
       stays = λ j at e on. go at e (λ x. isOn j x ≡ true) (λ q. set-keeps k j (entryAt mem a) (rw q on)) on;
     }
@@ -110,9 +106,7 @@ grown-added k a mem h g ea =
       where
         by : Dec (a ≡ at) → P (entryAt (added k a mem) at)
         by (yes q) = rw (← q, same-entry k a mem (omega arith)) (f q)
-        by (no n) =
-            let o : entryAt (added k (8 * (a / 8)) mem) (8 * (at / 8)) ≡ entryAt mem (8 * (at / 8)) = other-entry k (a / 8) (at / 8) mem (λ q. n (omega arith)) in
-            rw (rw (← eight-is a ea, ← eight-is at e) at o) p
+        by (no n) = rw (other-entry k a at mem ea e n) p
 
 -- ---- what a walk writes
 module _ (mem : Memory) where

@@ -3,7 +3,9 @@ pub mod BitLaws
 pub mod WordLaws
 pub mod SizeLaws
 pub mod ImageLaws
+pub mod PartLaws
 pub mod MemoryLaws
+pub mod PageLaws
 pub mod FormatLaws
 pub mod WalkLaws
 pub mod Alike
@@ -22,4 +24,5 @@ pub mod Cases
 pub mod TrialCases
 pub mod OwnCases
 pub mod UserPageCases
+pub mod HoleCases
 pub mod ManyCases

@@ -1,12 +1,11 @@
 -- What a walk marks stays marked while memory only grows, and marking once more what is marked changes nothing.
-use Prim.Native.Nat.{ℕ, _%_, _<_}
+use Prim.Native.Nat.{ℕ, _<_}
 use mathlib.Core.Path.{_≡_, refl, ap, sym, _∙_, subst}
 use mathlib.Core.Bool.{Bool, true, false, cond, _||_}
 use mathlib.Core.List.{List, [], _∷_}
 use native.Mathlib.Omega.{arith}
-use lib.ListN.{length}
 use Rattle.rules.specs.Bits.{isOn}
-use Rattle.rules.specs.Memory.{Memory, entryAt, added}
+use Rattle.rules.specs.Memory.{Memory, entryAt, added, Whole}
 use Rattle.rules.specs.Entries.{everything, allows}
 use Rattle.rules.specs.Walk.{top, Leaf, End, reached, stuck, Reach, accessed, dirtied, marked, reachIn, walk}
 use Rattle.rules.specs.declared.Control.{Control}
@@ -91,7 +90,7 @@ walk-marks c k a mem p h e g =
         ∙ ap (λ (x : Bool). cond x (accessed (reachIn mem c a .path) (dirtied (k .write) (p .at) mem)) mem) g
 
 -- ---- what is marked is not changed
-module _ (mem : Memory) (whole : length mem % 8 ≡ 0) where
+module _ (mem : Memory) (whole : Whole mem) where
   accessed-same : (path : List ℕ) → AllOf Eight path → AllOf (On 5 mem) path → accessed path mem ≡ mem
   accessed-same [] h on = refl
   accessed-same (at ∷ path) h on =

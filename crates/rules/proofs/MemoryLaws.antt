@@ -1,117 +1,125 @@
--- Reading an entry of memory after a bit was added to a byte of memory, for every bit and every memory.
--- Two laws carry it: a bit below 8 added to an entry's lowest byte is that bit set in the entry, since the other bytes make a multiple of
--- 256; and two entries at multiples of 8 are one or share no byte.
-use Prim.Native.Nat.{ℕ, zero, suc, _+_, _-_, _*_, _/_, _%_, _^_, _≤_, _<_}
-use mathlib.Core.Path.{_≡_, refl, ap, sym, _∙_}
+-- Memory of two parts: what holds of each part by itself (`PartLaws`) holds of memory, since an address is one of low or of high. An address in the hole, or past
+-- high's end, reads as all ones and is not written.
+use Prim.Native.Nat.{ℕ, _+_, _-_, _%_, _≤_, _<_}
+use mathlib.Core.Path.{_≡_, refl, ap, sym}
 use mathlib.Core.Logic.{_≢_}
-use mathlib.Core.Bool.{Bool, true, false, cond, true≢false}
-use mathlib.Core.List.{[], _∷_}
+use mathlib.Core.Bool.{Bool, true, false, cond, _||_, not}
+use mathlib.Core.List.{List}
 use native.Mathlib.Omega.{arith}
-use native.Mathlib.Nat.{le-of-suc-le-suc, not-suc-le-zero, add-mul-mod-self-left}
-use native.Mathlib.Decide.{decLt}
-use lib.ListN.{length, getD, take, drop, set, length-set}
-use lib.Seq.{drop-nil, set-getD, set-out, take-set-le, drop-set-lt, drop-set-add}
-use lib.Pow.{pow-pos, ones-split, ones-lt, high}
-use lib.Dec.{leb, eqb}
-use borrow.Author.Tests.{leb-true, le-leb, lt-leb, eq-eqb}
-use Rattle.rules.specs.Bits.{bit, isOn, withBit, word, AreBytes}
-use Rattle.rules.specs.Memory.{Memory, allOnes, entryAt, added}
-use Rattle.rules.proofs.BitLaws.{bit-low, on-stays, set-twice, set-order, set-lt}
+use lib.ListN.{length}
+use lib.Dec.{ltb, eqb}
+use borrow.Author.Tests.{ltb-false, lt-ltb, le-ltb, eqb-true, not-false}
+use Rattle.rules.specs.Bits.{isOn, withBit}
+use Rattle.rules.specs.Memory.{Memory, both, highBase, lowMost, allOnes, entryIn, addedIn, entryAt, added, noLengths, Whole}
+use Rattle.rules.proofs.BoolLaws.{or-left, or-right}
+use Rattle.rules.proofs.PartLaws as part
+
+-- ---- by which part an address is one of
+abbrev entryBy : Bool → Memory → ℕ → ℕ
+entryBy x mem a = cond x (entryIn (mem .low) a) (entryIn (mem .high) (a - highBase))
+
+abbrev addedBy : Bool → ℕ → ℕ → Memory → Memory
+addedBy x k a mem = cond x (both (addedIn k a (mem .low)) (mem .high)) (both (mem .low) (addedIn k (a - highBase) (mem .high)))
+
+-- ---- an entry in the hole, and past high's end
+pub entry-hole : (a : ℕ) (mem : Memory) → a < highBase → length (mem .low) < a + 8 → entryAt mem a ≡ allOnes
+entry-hole a mem h l = rw (lt-ltb a highBase h) (part.entry-outside a (mem .low) l)
+
+pub entry-past : (a : ℕ) (mem : Memory) → highBase ≤ a → highBase + length (mem .high) < a + 8 → entryAt mem a ≡ allOnes
+entry-past a mem h l = rw (le-ltb a highBase h) (part.entry-outside (a - highBase) (mem .high) (omega arith))
+
+pub added-hole : (k a : ℕ) (mem : Memory) → a < highBase → length (mem .low) ≤ a → added k a mem ≡ mem
+added-hole k a mem h l = rw (lt-ltb a highBase h) (ap (λ (x : List ℕ). both x (mem .high)) (part.added-outside k a (mem .low) l))
+
+pub added-past : (k a : ℕ) (mem : Memory) → highBase + length (mem .high) ≤ a → added k a mem ≡ mem
+added-past k a mem l =
+    rw (le-ltb a highBase (omega arith)) (ap (both (mem .low)) (part.added-outside k (a - highBase) (mem .high) (omega arith)))
 
 -- ---- memory after a bit was added
-pub added-length : (k a : ℕ) (mem : Memory) → length (added k a mem) ≡ length mem
-added-length k a mem = length-set mem a _
+pub record SameLengths (mem mem′ : Memory) : Type 0 where
+  pub low : length (mem .low) ≡ length (mem′ .low)
+  pub high : length (mem .high) ≡ length (mem′ .high)
 
-pub added-outside : (k a : ℕ) (mem : Memory) → length mem ≤ a → added k a mem ≡ mem
-added-outside k a mem h = set-out mem a _ h
+pub added-lengths : (k a : ℕ) (mem : Memory) → SameLengths mem (added k a mem)
+added-lengths k a mem = go (ltb a highBase)
+  where
+    go : (x : Bool) → SameLengths mem (addedBy x k a mem)
+    go true = record { low = sym (part.added-length k a (mem .low)); high = refl }
+    go false = record { low = refl; high = sym (part.added-length k (a - highBase) (mem .high)) }
 
 pub added-twice : (k a : ℕ) (mem : Memory) → added k a (added k a mem) ≡ added k a mem
-added-twice k a [] = refl
-added-twice k zero (x ∷ xs) = ap (λ (y : ℕ). y ∷ xs) (set-twice k x)
-added-twice k (suc a) (x ∷ xs) = ap (λ (ys : Memory). x ∷ ys) (added-twice k a xs)
+added-twice k a mem = go (ltb a highBase)
+  where
+    go : (x : Bool) → addedBy x k a (addedBy x k a mem) ≡ addedBy x k a mem
+    go true = ap (λ (l : List ℕ). both l (mem .high)) (part.added-twice k a (mem .low))
+    go false = ap (both (mem .low)) (part.added-twice k (a - highBase) (mem .high))
 
 pub added-order : (j k a b : ℕ) (mem : Memory) → added j a (added k b mem) ≡ added k b (added j a mem)
-added-order j k a b [] = refl
-added-order j k zero zero (x ∷ xs) = ap (λ (y : ℕ). y ∷ xs) (set-order j k x)
-added-order j k zero (suc b) (x ∷ xs) = refl
-added-order j k (suc a) zero (x ∷ xs) = refl
-added-order j k (suc a) (suc b) (x ∷ xs) = ap (λ (ys : Memory). x ∷ ys) (added-order j k a b xs)
+added-order j k a b mem = go (ltb a highBase) (ltb b highBase)
+  where
+    go : (x y : Bool) → addedBy x j a (addedBy y k b mem) ≡ addedBy y k b (addedBy x j a mem)
+    go true true = ap (λ (l : List ℕ). both l (mem .high)) (part.added-order j k a b (mem .low))
+    go true false = refl
+    go false true = refl
+    go false false = ap (both (mem .low)) (part.added-order j k (a - highBase) (b - highBase) (mem .high))
 
-pub added-bytes : (k a : ℕ) (mem : Memory) → k < 8 → AreBytes mem → AreBytes (added k a mem)
-added-bytes k a [] h b i = b i
-added-bytes k zero (x ∷ xs) h b zero = set-lt k 8 x h (b 0)
-added-bytes k zero (x ∷ xs) h b (suc i) = b (suc i)
-added-bytes k (suc a) (x ∷ xs) h b zero = b 0
-added-bytes k (suc a) (x ∷ xs) h b (suc i) = added-bytes k a xs h (λ (j : ℕ). b (suc j)) i
-
--- ---- an entry inside memory, and outside
-pub entry-outside : (a : ℕ) (mem : Memory) → length mem < a + 8 → entryAt mem a ≡ allOnes
-entry-outside a mem h = rw (lt-leb (a + 8) (length mem) h)
-
-pub entry-inside : (a : ℕ) (mem : Memory) → a + 8 ≤ length mem → entryAt mem a ≡ word (take 8 (drop a mem))
-entry-inside a mem h = rw (le-leb (a + 8) (length mem) h)
-
-pub ones-on : (k : ℕ) → k < 64 → isOn k allOnes ≡ true
-ones-on k h =
-    let q : suc (63 - k) + k ≡ 64 = omega arith in
-    let e : allOnes / 2 ^ k ≡ 2 ^ suc (63 - k) - 1 = ap (λ (z : ℕ). z / 2 ^ k) (rw q at (ones-split (suc (63 - k)) k)) ∙ high _ k (ones-lt k) in
-    eq-eqb (bit k allOnes) 1 (rw e (omega (arith, pow-pos (63 - k))))
-
--- ---- an entry after a bit was added to its lowest byte
-low-byte : (k x r : ℕ) → k < 8 → withBit k (x + 256 * r) ≡ withBit k x + 256 * r
-low-byte k x r h = rw (bit-low k 8 (x + 256 * r) x h (add-mul-mod-self-left x 256 r)) (omega arith)
-
-here : (k a : ℕ) (mem : Memory) → k < 8 → a < length mem → word (take 8 (drop a (added k a mem))) ≡ withBit k (word (take 8 (drop a mem)))
-here k a [] h l = absurd (not-suc-le-zero l)
-here k zero (x ∷ xs) h l = sym (low-byte k x (word (take 7 xs)) h)
-here k (suc a) (x ∷ xs) h l = here k a xs h (le-of-suc-le-suc l)
-
+-- ---- an entry after a bit was added to it, and to another
 pub same-entry : (k a : ℕ) (mem : Memory) → k < 8 → entryAt (added k a mem) a ≡ withBit k (entryAt mem a)
-same-entry k a mem h = rw (added-length k a mem) (go (leb (a + 8) (length mem)) refl)
+same-entry k a mem h = go (ltb a highBase)
   where
-    go : (t : Bool) → leb (a + 8) (length mem) ≡ t
-        → cond t (word (take 8 (drop a (added k a mem)))) allOnes ≡ withBit k (cond t (word (take 8 (drop a mem))) allOnes)
-    go true e = here k a mem h (omega (arith, leb-true (a + 8) (length mem) e))
-    go false e = sym (on-stays k allOnes (ones-on k (omega arith)))
+    go : (x : Bool) → entryBy x (addedBy x k a mem) a ≡ withBit k (entryBy x mem a)
+    go true = part.same-entry k a (mem .low) h
+    go false = part.same-entry k (a - highBase) (mem .high) h
 
--- a bit below 8 of an entry is one of its lowest byte
-low-on : (k a : ℕ) (mem : Memory) → k < 8 → isOn k (word (take 8 (drop a mem))) ≡ isOn k (getD mem a 0)
-low-on k a [] h = rw (drop-nil {A = ℕ} a)
-low-on k zero (x ∷ xs) h = ap (λ (b : ℕ). eqb b 1) (bit-low k 8 (x + 256 * word (take 7 xs)) x h (add-mul-mod-self-left x 256 _))
-low-on k (suc a) (x ∷ xs) h = low-on k a xs h
-
--- ---- an entry after a bit was added to another
-apart : (i j v : ℕ) (mem : Memory) → i ≢ j → take 8 (drop (8 * j) (set mem (8 * i) v)) ≡ take 8 (drop (8 * j) mem)
-apart i j v mem h = go (decLt i j)
+pub other-entry : (k a b : ℕ) (mem : Memory) → a % 8 ≡ 0 → b % 8 ≡ 0 → a ≢ b → entryAt (added k a mem) b ≡ entryAt mem b
+other-entry k a b mem ea eb n = go (ltb a highBase) (ltb b highBase) refl refl
   where
-    go : Dec (i < j) → take 8 (drop (8 * j) (set mem (8 * i) v)) ≡ take 8 (drop (8 * j) mem)
-    go (yes l) = ap (take 8) (drop-set-lt (8 * j) mem (8 * i) v (omega arith))
-    go (no g) =
-        let e : 8 * i ≡ 8 * j + 8 * (i - j) = omega arith in
-        rw (e, drop-set-add) (take-set-le 8 (drop (8 * j) mem) (8 * (i - j)) v (omega arith))
+    go : (x y : Bool) → ltb a highBase ≡ x → ltb b highBase ≡ y → entryBy y (addedBy x k a mem) b ≡ entryBy y mem b
+    go true true p q = part.other-entry k a b (mem .low) ea eb n
+    go true false p q = refl
+    go false true p q = refl
+    go false false p q =
+        part.other-entry k (a - highBase) (b - highBase) (mem .high) (omega (arith, ltb-false a highBase p)) (omega (arith, ltb-false b highBase q))
+        (λ e. n (omega (arith, ltb-false a highBase p, ltb-false b highBase q)))
 
-pub other-entry : (k i j : ℕ) (mem : Memory) → i ≢ j → entryAt (added k (8 * i) mem) (8 * j) ≡ entryAt mem (8 * j)
-other-entry k i j mem h = rw (added-length k (8 * i) mem, apart i j _ mem h)
+-- ---- a bit that an entry has need not be added
+pub added-already : (k a : ℕ) (mem : Memory) → a % 8 ≡ 0 → Whole mem → k < 8 → isOn k (entryAt mem a) ≡ true → mem ≡ added k a mem
+added-already k a mem eight w h = go (ltb a highBase) refl
+  where
+    go : (x : Bool) → ltb a highBase ≡ x → isOn k (entryBy x mem a) ≡ true → mem ≡ addedBy x k a mem
+    go true p on = ap (λ (l : List ℕ). both l (mem .high)) (part.added-already k a (mem .low) eight (w .low) h on)
+    go false p on =
+        ap (both (mem .low)) (part.added-already k (a - highBase) (mem .high) (omega (arith, ltb-false a highBase p)) (w .high) h on)
 
--- ---- a bit that an entry has need not be added; one that it lacks stands inside memory
-module _ (k a : ℕ) (mem : Memory) (eight : a % 8 ≡ 0) (whole : length mem % 8 ≡ 0) where
-  inside : a < length mem → a + 8 ≤ length mem
-  inside h = omega arith
+-- ---- lengths that are not refused
+pub record Lengths (mem : Memory) : Type 0 where
+  pub low : length (mem .low) % 4096 ≡ 0
+  pub high : length (mem .high) % 4096 ≡ 0
+  pub most : length (mem .low) ≤ lowMost
 
-  pub added-already : k < 8 → isOn k (entryAt mem a) ≡ true → mem ≡ added k a mem
-  added-already h on = go (decLt a (length mem))
-    where
-      go : Dec (a < length mem) → mem ≡ added k a mem
-      go (no g) = sym (added-outside k a mem (omega arith))
-      go (yes l) =
-          let e : isOn k (getD mem a 0) ≡ true = sym (low-on k a mem h) ∙ ap (isOn k) (sym (entry-inside a mem (inside l))) ∙ on in
-          sym (ap (set mem a) (on-stays k (getD mem a 0) e) ∙ set-getD mem a 0)
+pub lengths : (mem : Memory) → noLengths mem ≡ false → Lengths mem
+lengths mem h =
+    let e : (not (eqb (length (mem .low) % 4096) 0) || not (eqb (length (mem .high) % 4096) 0)) ≡ false = or-left _ (ltb lowMost (length (mem .low))) h in
+    record {
+      low = eqb-true (length (mem .low) % 4096) 0 (not-false (eqb (length (mem .low) % 4096) 0) (or-left _ (not (eqb (length (mem .high) % 4096) 0)) e));
+      high = eqb-true (length (mem .high) % 4096) 0 (not-false (eqb (length (mem .high) % 4096) 0) (or-right (not (eqb (length (mem .low) % 4096) 0)) _ e));
+      most = ltb-false lowMost (length (mem .low)) (or-right (not (eqb (length (mem .low) % 4096) 0) || not (eqb (length (mem .high) % 4096) 0)) _ h);
+    }
 
-  pub lacks-inside : k < 64 → isOn k (entryAt mem a) ≡ false → a < length mem
-  lacks-inside h off = go (decLt a (length mem))
-    where
-      go : Dec (a < length mem) → a < length mem
-      go (yes l) = l
-      go (no g) =
-          let z : true ≡ false = sym (ap (isOn k) (entry-outside a mem (omega arith)) ∙ ones-on k h) ∙ off in
-          absurd (true≢false z)
+pub whole : (mem : Memory) → Lengths mem → Whole mem
+whole mem l = record { low = omega (arith, l .low); high = omega (arith, l .high); below = omega (arith, l .most) }
+
+-- the limit itself is allowed, and a page more is not, whatever the bytes are
+pub limit-allowed : (mem : Memory) → length (mem .low) ≡ 0xB0000000 → length (mem .high) % 4096 ≡ 0 → noLengths mem ≡ false
+limit-allowed mem h e = rw (h, e)
+
+pub limit-passed : (mem : Memory) → length (mem .low) ≡ 0xB0001000 → noLengths mem ≡ true
+limit-passed mem h = rw h (or-true (not (eqb (length (mem .high) % 4096) 0)))
+  where
+    or-true : (x : Bool) → (x || true) ≡ true
+    or-true true = refl
+    or-true false = refl
+
+-- lengths alone decide
+pub lengths-stay : (mem mem′ : Memory) → SameLengths mem mem′ → noLengths mem′ ≡ noLengths mem
+lengths-stay mem mem′ s = rw (s .low, s .high)

@@ -4,13 +4,14 @@ use Prim.Native.Nat.{ℕ, _+_, _-_, _^_}
 use mathlib.Core.Path.{refl}
 use mathlib.Core.List.{List, [], _∷_, _++_}
 use lib.ListN.{replicate, set}
+use Rattle.rules.specs.Memory.{Memory, both, empty}
 use Rattle.rules.specs.Image.{encode, decode, started}
 use Rattle.rules.specs.Buffer.{withVictims}
 use Rattle.rules.specs.Refusals.{Request, start, translate, invlpg, invpcid, writeCr3, writeMode}
 use Rattle.rules.specs.Calls.{withFlags}
 use Rattle.rules.specs.declared.Cause.the-variants.{NotPresent, Reserved, Protection}
 use Rattle.rules.specs.declared.Answer.the-variants.{Address, PageFault, Refused, Done}
-use Rattle.rules.specs.TrialGuest.{pageOf}
+use Rattle.rules.specs.TrialGuest.{startsWith}
 use Rattle.rules.proofs.Cases.{Call, _gives_, Ending, then, Case, blank, ready, _holds_, victims, keeps, AllRight}
 
 -- word 0 is the table itself; 1 a page; 2 a global page; 3 a 2 MiB page and 4 a 1 GiB page; 5 a supervisor's table with nothing in it;
@@ -21,8 +22,8 @@ tables =
     0x1007 ∷ 0x5007 ∷ 0x6107 ∷ 0xA00087 ∷ 0x80000087 ∷ 0x1 ∷ 0x5005 ∷ 0x2007 ∷ 0x602087 ∷ 0x8000000000005007 ∷ 0x1003 ∷ []
     ++ replicate 6 0 ++ (0x7007 ∷ []) ++ replicate 15 0 ++ (0x8007 ∷ []) ++ replicate 15 0 ++ (0x9007 ∷ []) ++ replicate 15 0 ++ (0xA007 ∷ [])
 
-abbrev guest : List ℕ
-guest = pageOf [] ++ pageOf tables
+abbrev guest : Memory
+guest = both (startsWith [] ++ startsWith tables) []
 
 abbrev pub own : List Call → List Ending → Case
 own cs es = record { image = blank; memory = guest; calls = ready ++ cs; endings = es }
@@ -162,39 +163,39 @@ drops =
     ∷ []
 
 -- ---- refusals, each at its edge, and the lowest that applies
-abbrev on : List ℕ → List ℕ → List Call → Case
+abbrev on : List ℕ → Memory → List Call → Case
 on image memory cs = record { image = image; memory = memory; calls = cs; endings = [] }
 
 abbrev refusals : List Case
 refusals =
-    on (replicate 2047 0) [] (start 40 gives Refused 2 ∷ [])
-    ∷ on (replicate 2049 0) [] (start 40 gives Refused 2 ∷ invlpg 0 gives Refused 2 ∷ [])
-    ∷ on blank [] (start 35 gives Refused 2 ∷ start 36 gives Done ∷ start 52 gives Done ∷ start 53 gives Refused 2 ∷ [])
-    ∷ on (encode (started 35)) [] (invlpg 0 gives Refused 2 ∷ [])
-    ∷ on (encode (started 53)) [] (translate 6 0 0 gives Refused 2 ∷ [])
-    ∷ on (encode (withFlags 128 (started 40))) [] (writeCr3 0 gives Refused 2 ∷ [])
-    ∷ on (encode (withFlags 127 (started 40))) [] (writeCr3 0 gives Done ∷ [])
-    ∷ on (encode (withVictims (2 ^ 50) (started 40))) [] (writeMode 0 gives Refused 2 ∷ [])
-    ∷ on (encode (withVictims (2 ^ 50 - 1) (started 40))) [] (writeMode 0 gives Done ∷ [])
-    ∷ on (set (encode (started 40)) 1631 1) [] (invpcid 2 0 0 gives Done ∷ [])
-    ∷ on (set (encode (started 40)) 1632 1) [] (invpcid 2 0 0 gives Refused 2 ∷ [])
-    ∷ on (set (encode (started 40)) 2047 1) [] (invpcid 4 0 0 gives Refused 2 ∷ [])
-    ∷ on blank []
+    on (replicate 2047 0) empty (start 40 gives Refused 2 ∷ [])
+    ∷ on (replicate 2049 0) empty (start 40 gives Refused 2 ∷ invlpg 0 gives Refused 2 ∷ [])
+    ∷ on blank empty (start 35 gives Refused 2 ∷ start 36 gives Done ∷ start 52 gives Done ∷ start 53 gives Refused 2 ∷ [])
+    ∷ on (encode (started 35)) empty (invlpg 0 gives Refused 2 ∷ [])
+    ∷ on (encode (started 53)) empty (translate 6 0 0 gives Refused 2 ∷ [])
+    ∷ on (encode (withFlags 128 (started 40))) empty (writeCr3 0 gives Refused 2 ∷ [])
+    ∷ on (encode (withFlags 127 (started 40))) empty (writeCr3 0 gives Done ∷ [])
+    ∷ on (encode (withVictims (2 ^ 50) (started 40))) empty (writeMode 0 gives Refused 2 ∷ [])
+    ∷ on (encode (withVictims (2 ^ 50 - 1) (started 40))) empty (writeMode 0 gives Done ∷ [])
+    ∷ on (set (encode (started 40)) 1631 1) empty (invpcid 2 0 0 gives Done ∷ [])
+    ∷ on (set (encode (started 40)) 1632 1) empty (invpcid 2 0 0 gives Refused 2 ∷ [])
+    ∷ on (set (encode (started 40)) 2047 1) empty (invpcid 4 0 0 gives Refused 2 ∷ [])
+    ∷ on blank empty
     (start 40 gives Done ∷ translate 5 0 0 gives Address 0 0 0 ∷ translate 6 0 0 gives Refused 3
     ∷ translate 0 0xFFFFFFFF 0 gives Address 0xFFFFFFFF 0 0 ∷ translate 0 0x100000000 0 gives Refused 5 ∷ [])
-    ∷ on blank (replicate 4095 0)
+    ∷ on blank (both (replicate 4095 0) [])
     (start 40 gives Done ∷ translate 0 0x100000000 0 gives Refused 4 ∷ translate 6 0 0 gives Refused 3 ∷ invlpg 0 gives Done ∷ [])
-    ∷ on blank []
+    ∷ on blank empty
     (ready
     ++ (translate 0 (2 ^ 47 - 1) 0 gives PageFault Reserved 4 9 1 ∷ translate 0 (2 ^ 47) 0 gives Refused 5
     ∷ translate 0 (2 ^ 64 - 2 ^ 47 - 1) 0 gives Refused 5 ∷ translate 0 (2 ^ 64 - 2 ^ 47) 0 gives PageFault Reserved 4 9 1 ∷ []))
-    ∷ on blank []
+    ∷ on blank empty
     (start 40 gives Done ∷ writeCr3 (2 ^ 39) gives Done ∷ writeCr3 (2 ^ 40) gives Refused 6 ∷ writeCr3 (2 ^ 62) gives Refused 6
     ∷ writeCr3 (2 ^ 63) gives Refused 6 ∷ writeMode 9 gives Done ∷ writeCr3 (2 ^ 63) gives Done ∷ [])
-    ∷ on blank []
+    ∷ on blank empty
     (start 40 gives Done ∷ writeMode 128 gives Refused 7 ∷ writeMode 118 gives Done ∷ writeMode 8 gives Refused 7 ∷ writeCr3 0x800 gives Done
     ∷ writeMode 31 gives Refused 7 ∷ writeCr3 0 gives Done ∷ writeMode 127 gives Done ∷ writeCr3 0x800 gives Done ∷ writeMode 27 gives Done ∷ [])
-    ∷ on blank []
+    ∷ on blank empty
     (start 40 gives Done ∷ invpcid 4 0 0 gives Refused 8 ∷ invpcid 3 4095 0 gives Done ∷ invpcid 2 4096 0 gives Refused 8
     ∷ invpcid 0 0 (2 ^ 47) gives Refused 8 ∷ invpcid 1 0 (2 ^ 47) gives Done ∷ invpcid 0 1 0 gives Refused 8
     ∷ invpcid 1 1 0 gives Refused 8 ∷ writeMode 9 gives Done ∷ invpcid 0 1 0 gives Done ∷ invpcid 1 1 0 gives Done ∷ [])

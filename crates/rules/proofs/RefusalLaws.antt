@@ -1,17 +1,18 @@
 -- What a call that is not refused was given, as far as proofs go by it: no refusal of its list applies, so each test of the table is passed.
-use Prim.Native.Nat.{ℕ, _%_, _^_, _≤_, _<_}
+use Prim.Native.Nat.{ℕ, _^_, _≤_, _<_}
 use mathlib.Core.Path.{_≡_, refl}
 use mathlib.Core.Bool.{Bool, true, false, cond, _||_, not}
 use mathlib.Core.List.{List, [], _∷_}
 use native.Mathlib.Omega.{arith}
 use lib.ListN.{length, drop}
-use lib.Dec.{leb, ltb, eqb}
+use lib.Dec.{leb, ltb}
 use borrow.Author.Tests.{eqb-true, ltb-false, leb-false, not-false}
 use Rattle.rules.specs.Bits.{AreBytes, wordsOf}
 use Rattle.rules.specs.Image.{decode, IsImage}
 use Rattle.rules.specs.Memory.{Memory}
 use Rattle.rules.specs.Refusals.{Request, start, translate, invlpg, invpcid, writeCr3, writeMode, Refusal, lowest, isLong, isOutside, allZero, noFlags, isUnfit, noAddress, refusals, refusal}
 use Rattle.rules.proofs.BoolLaws.{or-left, or-right}
+use Rattle.rules.proofs.MemoryLaws.{Lengths, lengths}
 use Rattle.rules.proofs.PlaceLaws.{image-of}
 use Rattle.rules.proofs.CallLaws.{Above}
 
@@ -65,7 +66,7 @@ passed (r ∷ rs) above h = go (r .applies) refl h (passed rs (above .1))
 -- ---- each call
 abbrev pub Given : List ℕ → Memory → Request → Type 0
 Given b mem (start w) = (length b ≡ 2048) × (36 ≤ w) × (w ≤ 52)
-Given b mem (translate k a ac) = Fit b × (k ≤ 5) × (length mem % 4096 ≡ 0) × (noAddress (decode b) a ≡ false)
+Given b mem (translate k a ac) = Fit b × (k ≤ 5) × Lengths mem × (noAddress (decode b) a ≡ false)
 Given b mem (invlpg a) = Fit b
 Given b mem (invpcid t p a) = Fit b × (p ≤ 4095)
 Given b mem (writeCr3 v) = Fit b
@@ -75,7 +76,7 @@ pub given : (b : List ℕ) (mem : Memory) (q : Request) → refusal b mem q ≡ 
 given b mem (start w) h = sized b w (passed (refusals b mem (start w)) (omega arith) h .0)
 given b mem (translate k a ac) h =
     let p : Passed (refusals b mem (translate k a ac)) = passed (refusals b mem (translate k a ac)) (omega arith) h in
-    (fit b (p .0), ltb-false 5 k (p .1 .0), eqb-true (length mem % 4096) 0 (not-false (eqb (length mem % 4096) 0) (p .1 .1 .0)), p .1 .1 .1 .0)
+    (fit b (p .0), ltb-false 5 k (p .1 .0), lengths mem (p .1 .1 .0), p .1 .1 .1 .0)
 given b mem (invlpg a) h = fit b (passed (refusals b mem (invlpg a)) (omega arith) h .0)
 given b mem (invpcid t p a) h =
     let q : Passed (refusals b mem (invpcid t p a)) = passed (refusals b mem (invpcid t p a)) (omega arith) h in

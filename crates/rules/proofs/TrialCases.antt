@@ -2,6 +2,7 @@
 -- request W-201 has it.
 use mathlib.Core.Path.{refl}
 use mathlib.Core.List.{List, [], _∷_, _++_}
+use Rattle.rules.specs.Memory.{both}
 use Rattle.rules.specs.Image.{encode, decode}
 use Rattle.rules.specs.Refusals.{translate, writeCr3, writeMode}
 use Rattle.rules.specs.TrialGuest.{guest}
@@ -11,7 +12,7 @@ use Rattle.rules.proofs.Cases.{Call, _gives_, Ending, then, Case, blank
 
 -- afresh; then some calls, and then each of several endings
 abbrev after : List Call → List Ending → Case
-after cs es = record { image = blank; memory = guest; calls = ready ++ cs; endings = es }
+after cs es = record { image = blank; memory = both guest []; calls = ready ++ cs; endings = es }
 
 abbrev trial : List Call → List Look → Case
 trial cs ls = after cs (then [] ls ∷ [])

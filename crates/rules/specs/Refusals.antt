@@ -6,7 +6,7 @@ use mathlib.Core.List.{List, [], _∷_}
 use lib.ListN.{length, drop}
 use lib.Dec.{leb, ltb, eqb}
 use Rattle.rules.specs.Bits.{isOn, field, anyOn, wordsOf}
-use Rattle.rules.specs.Memory.{Memory, isRagged}
+use Rattle.rules.specs.Memory.{Memory, noLengths}
 use Rattle.rules.specs.Image.{Image, decode, control, pg, pcide}
 use Rattle.rules.specs.declared.Control.{Control}
 
@@ -82,7 +82,7 @@ noInvpcid s t p a =
 abbrev pub refusals : List ℕ → Memory → Request → List Refusal
 refusals b mem (start w) = 2 if (not (isLong b) || isOutside w) ∷ []
 refusals b mem (translate k a ac) =
-    2 if isUnfit b ∷ 3 if ltb 5 k ∷ 4 if isRagged mem ∷ 5 if noAddress (decode b) a ∷ []
+    2 if isUnfit b ∷ 3 if ltb 5 k ∷ 4 if noLengths mem ∷ 5 if noAddress (decode b) a ∷ []
 refusals b mem (invlpg a) = 2 if isUnfit b ∷ []
 refusals b mem (invpcid t p a) = 2 if isUnfit b ∷ 8 if noInvpcid (decode b) t p a ∷ []
 refusals b mem (writeCr3 v) = 2 if isUnfit b ∷ 6 if noCr3 (decode b) v ∷ []

@@ -7,10 +7,9 @@ use lib.ListN.{length, take, drop, length-drop, drop-of-length-le}
 use lib.Seq.{length-take-le, take-append-add}
 use borrow.Author.Tests.{le-ltb}
 use Rattle.rules.specs.Bits.{wordAt}
-use Rattle.rules.specs.Memory.{Memory}
 use Rattle.rules.specs.Answers.{recordBytes}
 use Rattle.trace.specs.Orders.{orderOf}
-use Rattle.trace.specs.Does.{Given, lineDoes}
+use Rattle.trace.specs.Does.{Low, Given, lineDoes}
 use Rattle.trace.specs.Printed.{printed}
 use Rattle.trace.specs.Totals.{counted}
 use Rattle.trace.specs.Pieces.{room}
@@ -32,7 +31,7 @@ seam : (front back none : List ℕ) (i k : ℕ) → length front ≡ i → none 
 seam front back none i k e z = rw (← e, z, append-nil) (take-append-add front back k)
 
 -- ---- a line that ends: it is printed behind what stands there, and its answer is counted
-module _ (r : RunOf) (b b′ : List ℕ) (mem mem′ : Memory) (text out part′ : List ℕ) (at : ℕ) (r₀ r′ : List ℕ) (n : ℕ) (h : at + 80 ≤ length out)
+module _ (r : RunOf) (b b′ : List ℕ) (mem mem′ : Low) (text out part′ : List ℕ) (at : ℕ) (r₀ r′ : List ℕ) (n : ℕ) (h : at + 80 ≤ length out)
     (l : Lines text (r .lines + 1) b b′ mem mem′ r₀ r′ (take (length out - at) (drop at out)) part′ n) where
   abbrev given : Given
   given = lineDoes text b mem

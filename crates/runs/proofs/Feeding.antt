@@ -10,8 +10,8 @@ use lib.Dec.{ltb, leb}
 use lib.ListN.{length, take, drop, drop-of-length-le}
 use lib.Seq.{take-all}
 use borrow.Author.Tests.{ltb-true, ltb-false, leb-true, leb-false, lt-ltb, le-leb}
-use Rattle.rules.specs.Memory.{Memory}
 use Rattle.rules.proofs.BoolLaws.{and-left, and-right}
+use Rattle.trace.specs.Does.{Low}
 use Rattle.trace.specs.Trace.{most}
 use Rattle.trace.specs.Pieces.{Run, enough, room, Taken, isFull, taking}
 use Rattle.printing.proofs.Putting.{puts-fits}
@@ -37,7 +37,7 @@ none-left : (left : ℕ) (r : Run) (bs : List ℕ) → bs ≡ [] → taking left
 unfolding taking
 none-left left r bs h = rw h
 
-stops : (f : Fed) (b : List ℕ) (mem : Memory) (kept piece out : List ℕ) → goesOn f piece out ≡ false
+stops : (f : Fed) (b : List ℕ) (mem : Low) (kept piece out : List ℕ) → goesOn f piece out ≡ false
     → taking (length out - f .written) (runOf (f .run) kept b mem) (drop (f .taken) piece) ≡ ceased (runOf (f .run) kept b mem)
 stops f b mem kept piece out = go _ _ _ refl refl refl
   where
@@ -49,7 +49,7 @@ stops f b mem kept piece out = go _ _ _ refl refl refl
     go true true true p q s h = absurd (true≢false h)
 
 -- ---- the turns that were made
-pub record Feeding (r : RunOf) (b₀ : List ℕ) (mem₀ : Memory) (kept₀ piece out₀ : List ℕ) (b : List ℕ) (mem : Memory) (kept out : List ℕ) (f : Fed) : Type 0 where
+pub record Feeding (r : RunOf) (b₀ : List ℕ) (mem₀ : Low) (kept₀ piece out₀ : List ℕ) (b : List ℕ) (mem : Low) (kept out : List ℕ) (f : Fed) : Type 0 where
   pub sameImage : length b ≡ length b₀
   pub sameMemory : length mem ≡ length mem₀
   pub long : length kept ≡ enough
@@ -60,7 +60,7 @@ pub record Feeding (r : RunOf) (b₀ : List ℕ) (mem₀ : Memory) (kept₀ piec
   pub whole : ahead (take (f .written) out) (f .taken) (taking (length out - f .written) (runOf (f .run) kept b mem) (drop (f .taken) piece))
       ≡ taking (length out₀) (runOf r kept₀ b₀ mem₀) piece
 
-pub feeding-none : (r : RunOf) (b : List ℕ) (mem : Memory) (kept piece out : List ℕ) → length kept ≡ 53 → r .kept ≤ 53
+pub feeding-none : (r : RunOf) (b : List ℕ) (mem : Low) (kept piece out : List ℕ) → length kept ≡ 53 → r .kept ≤ 53
     → Feeding r b mem kept piece out b mem kept out (record { run = r; taken = 0; written = 0 })
 feeding-none r b mem kept piece out long few =
     record {
@@ -74,7 +74,7 @@ feeding-none r b mem kept piece out long few =
       whole = rw (sub-zero, add-zero);
     }
 
-module _ (r : RunOf) (b₀ : List ℕ) (mem₀ : Memory) (kept₀ piece out₀ : List ℕ) (b : List ℕ) (mem : Memory) (kept out : List ℕ) (f : Fed)
+module _ (r : RunOf) (b₀ : List ℕ) (mem₀ : Low) (kept₀ piece out₀ : List ℕ) (b : List ℕ) (mem : Low) (kept out : List ℕ) (f : Fed)
     (h : Feeding r b₀ mem₀ kept₀ piece out₀ b mem kept out f) where
   pub ready : (x : Bool) → x ≡ goesOn f piece out → x ≡ true → Ready f kept piece out
   ready x e t =
@@ -88,7 +88,7 @@ module _ (r : RunOf) (b₀ : List ℕ) (mem₀ : Memory) (kept₀ piece out₀ :
         fits = omega (arith, leb-true room (length out - f .written) (and-right (ltb (f .taken) (length piece)) (leb room (length out - f .written)) both), h .fits);
       }
 
-  pub feeding-more : (b′ : List ℕ) (mem′ : Memory) (kept′ out′ : List ℕ) (g : Fed) → Turns f b b′ mem mem′ kept kept′ piece out out′ g
+  pub feeding-more : (b′ : List ℕ) (mem′ : Low) (kept′ out′ : List ℕ) (g : Fed) → Turns f b b′ mem mem′ kept kept′ piece out out′ g
       → length b′ ≡ length b → length mem′ ≡ length mem → length kept′ ≡ length kept → length out′ ≡ length out
       → Feeding r b₀ mem₀ kept₀ piece out₀ b′ mem′ kept′ out′ g
   feeding-more b′ mem′ kept′ out′ g t lb lm lk lo =
@@ -136,7 +136,7 @@ bounded-all r h =
           (take-all enough kept (omega arith) ∙ sym (take-all (r .kept) kept (omega arith)));
     }
 
-pub feeds-bounded : (r r′ : RunOf) (b b′ : List ℕ) (mem mem′ : Memory) (kept kept′ piece out out′ : List ℕ) (f : Fed) → Bounded r r′ → length kept ≡ 53
+pub feeds-bounded : (r r′ : RunOf) (b b′ : List ℕ) (mem mem′ : Low) (kept kept′ piece out out′ : List ℕ) (f : Fed) → Bounded r r′ → length kept ≡ 53
     → Feeds r′ b b′ mem mem′ kept kept′ piece out out′ f → Feeds r b b′ mem mem′ kept kept′ piece out out′ f
 feeds-bounded r r′ b b′ mem mem′ kept kept′ piece out out′ f h long d =
     record { within = d .within; fits = d .fits; taken = d .taken ∙ ap (λ (s : Run). taking (length out) s piece) (h .same kept b mem long) }

@@ -8,10 +8,9 @@ use lib.Dec.{eqb}
 use lib.ListN.{length, take}
 use lib.Seq.{length-take-le}
 use borrow.Author.Tests.{le-ltb, ne-eqb}
-use Rattle.rules.specs.Memory.{Memory}
 use Rattle.rules.proofs.BoolLaws.{either}
 use Rattle.trace.specs.Text.{feed}
-use Rattle.trace.specs.Does.{lineDoes}
+use Rattle.trace.specs.Does.{Low, lineDoes}
 use Rattle.trace.specs.Printed.{totalLine}
 use Rattle.trace.specs.Pieces.{Run, Step, ends, isOver, lastLine, finished, room, Taken, taking}
 use Rattle.trace.proofs.Room.{line-low}
@@ -21,7 +20,7 @@ use Rattle.runs.specs.declared.Run.{Run as RunOf}
 use Rattle.runs.specs.declared.Fed.{Fed}
 use Rattle.runs.specs.Feeding.{runOf, Bounded, Feeds, Finishes}
 
-pub finish-none : (r : RunOf) (b : List ℕ) (mem : Memory) (kept out out′ : List ℕ) (n : ℕ) → r .kept ≡ 0
+pub finish-none : (r : RunOf) (b : List ℕ) (mem : Low) (kept out out′ : List ℕ) (n : ℕ) → r .kept ≡ 0
     → Puts out out′ 0 (totalLine (r .totals)) n → Finishes r b b mem mem kept out′ n
 finish-none r b mem kept out out′ n z p =
     let a : (isOver (runOf r kept b mem) || eqb (length (take (r .kept) kept)) 0) ≡ true = rw z (or-true (isOver (runOf r kept b mem))) in
@@ -41,7 +40,7 @@ last-low r =
     either (λ (s : Step). length (s .out) ≤ room) (isOver r || eqb (length (r .text)) 0) _ _ (λ h. omega arith)
     (λ h. line-low (r .lines + 1) (lineDoes (r .text) (r .image) (r .memory) .answer))
 
-module _ (r : RunOf) (b b′ : List ℕ) (mem mem′ : Memory) (kept kept′ out out₁ : List ℕ) (f : Fed) (long : length kept ≡ 53) (few : r .kept ≤ 53) (o : r .kept ≡ 0 → ⊥)
+module _ (r : RunOf) (b b′ : List ℕ) (mem mem′ : Low) (kept kept′ out out₁ : List ℕ) (f : Fed) (long : length kept ≡ 53) (few : r .kept ≤ 53) (o : r .kept ≡ 0 → ⊥)
     (wide : length out ≡ 160) (same : length out₁ ≡ length out) (d : Feeds r b b′ mem mem′ kept kept′ (10 ∷ []) out out₁ f) where
   step : _≡_ {A = Step} (record { out = take (f .written) out₁; run = runOf (f .run) kept′ b′ mem′ }) (lastLine (runOf r kept b mem))
   step =
@@ -63,7 +62,7 @@ module _ (r : RunOf) (b b′ : List ℕ) (mem mem′ : Memory) (kept kept′ out
         memory = ap (λ (s : Step). s .run .memory) step;
       }
 
-pub finish-bounded : (r r′ : RunOf) (b b′ : List ℕ) (mem mem′ : Memory) (kept out′ : List ℕ) (n : ℕ) → Bounded r r′ → length kept ≡ 53
+pub finish-bounded : (r r′ : RunOf) (b b′ : List ℕ) (mem mem′ : Low) (kept out′ : List ℕ) (n : ℕ) → Bounded r r′ → length kept ≡ 53
     → Finishes r′ b b′ mem mem′ kept out′ n → Finishes r b b′ mem mem′ kept out′ n
 finish-bounded r r′ b b′ mem mem′ kept out′ n h long f =
     record {

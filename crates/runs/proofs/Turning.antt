@@ -10,11 +10,10 @@ use lib.Dec.{eqb}
 use lib.ListN.{length, take, drop, length-drop, length-take}
 use lib.Seq.{take-all, drop-drop}
 use borrow.Author.Tests.{le-ltb, lt-leb}
-use Rattle.rules.specs.Memory.{Memory}
 use Rattle.rules.proofs.BoolLaws.{or-right}
 use Rattle.trace.specs.Text.{feed}
 use Rattle.trace.specs.Orders.{orderOf}
-use Rattle.trace.specs.Does.{Given, does}
+use Rattle.trace.specs.Does.{Low, Given, does}
 use Rattle.trace.specs.Printed.{printed}
 use Rattle.trace.specs.Totals.{counted}
 use Rattle.trace.specs.Trace.{most}
@@ -84,7 +83,7 @@ one-after : (o : List ℕ) (m n : ℕ) (t : Taken) → ahead [] m (ahead o n t) 
 one-after o m n t = ap (λ (k : ℕ). record { step = record { out = o ++ t .step .out; run = t .step .run }; taken = k }) (omega arith)
 
 -- ---- a turn
-module _ (f : Fed) (b : List ℕ) (mem : Memory) (kept piece out : List ℕ) (h : Ready f kept piece out) (at : ℕ) (e : at ≡ endAt feed piece (f .taken)) where
+module _ (f : Fed) (b : List ℕ) (mem : Low) (kept piece out : List ℕ) (h : Ready f kept piece out) (at : ℕ) (e : at ≡ endAt feed piece (f .taken)) where
   abbrev now : Run
   now = runOf (f .run) kept b mem
 
@@ -137,7 +136,7 @@ module _ (f : Fed) (b : List ℕ) (mem : Memory) (kept piece out : List ℕ) (h 
         ∙ separator-at feed (drop (f .taken) piece) l
         ∙ ap (λ (t : List ℕ). feed ∷ t) (drop-drop (suc (width feed (drop (f .taken) piece))) (f .taken) piece ∙ ap (λ (i : ℕ). drop i piece) k)
 
-    pub to-line : (b′ : List ℕ) (mem′ : Memory) (kept′ : List ℕ) (n : ℕ) (text out′ : List ℕ) (d : Ended)
+    pub to-line : (b′ : List ℕ) (mem′ : Low) (kept′ : List ℕ) (n : ℕ) (text out′ : List ℕ) (d : Ended)
         → Gathers kept (f .run .kept) part kept′ n → text ≡ textOf kept′ n part
         → Ends (f .run) b b′ mem mem′ text out out′ (f .written) d
         → Turns f b b′ mem mem′ kept kept′ piece out out′ (record { run = d .run; taken = at + 1; written = d .written })

@@ -6,7 +6,7 @@ use mathlib.Core.List.{List}
 use native.Mathlib.Omega.{arith}
 use lib.ListN.{length, take}
 use lib.Seq.{length-take-le}
-use Rattle.rules.specs.Memory.{Memory}
+use Rattle.trace.specs.Does.{Low}
 use Rattle.trace.specs.Pieces.{Taken}
 use Rattle.runs.specs.declared.Run.{Run as RunOf}
 use Rattle.runs.specs.declared.Fed.{Fed}
@@ -16,7 +16,7 @@ use Rattle.runs.specs.Feeding.{runOf, Feeds, Finishes}
 count-one : (n₁ n₂ : ℕ) (out₁ out₂ : List ℕ) → n₁ ≤ length out₁ → n₂ ≤ length out₂ → take n₁ out₁ ≡ take n₂ out₂ → n₁ ≡ n₂
 count-one n₁ n₂ out₁ out₂ h g e = sym (length-take-le n₁ out₁ h) ∙ ap length e ∙ length-take-le n₂ out₂ g
 
-module _ (b b₁ b₂ : List ℕ) (mem mem₁ mem₂ : Memory) (out₁ out₂ : List ℕ) where
+module _ (b b₁ b₂ : List ℕ) (mem mem₁ mem₂ : Low) (out₁ out₂ : List ℕ) where
   pub feeds-one : (r : RunOf) (kept kept₁ kept₂ piece out : List ℕ) (f₁ f₂ : Fed) → length out₁ ≡ length out → length out₂ ≡ length out
       → Feeds r b b₁ mem mem₁ kept kept₁ piece out out₁ f₁ → Feeds r b b₂ mem mem₂ kept kept₂ piece out out₂ f₂
       → (f₁ .written ≡ f₂ .written)

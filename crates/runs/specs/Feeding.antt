@@ -5,7 +5,7 @@ use mathlib.Core.Bool.{Bool, cond, _&&_}
 use mathlib.Core.List.{List, _++_}
 use lib.Dec.{eqb, leb, ltb}
 use lib.ListN.{length, take, drop}
-use Rattle.rules.specs.Memory.{Memory}
+use Rattle.trace.specs.Does.{Low}
 use Rattle.trace.specs.Totals.{noTotals}
 use Rattle.trace.specs.Trace.{most}
 use Rattle.trace.specs.Pieces.{Run, after, enough, ends, lastLine, finished, room, Taken, taking}
@@ -34,10 +34,10 @@ abbrev pub textOf : List ℕ → ℕ → List ℕ → List ℕ
 textOf kept n part = cond (eqb n 0) part (take n kept)
 
 -- ---- a run as code has it: lent bytes and numbers
-abbrev pub runWith : RunOf → List ℕ → List ℕ → Memory → Run
+abbrev pub runWith : RunOf → List ℕ → List ℕ → Low → Run
 runWith r text b mem = record { text = text; lines = r .lines; totals = r .totals; image = b; memory = mem }
 
-abbrev pub runOf : RunOf → List ℕ → List ℕ → Memory → Run
+abbrev pub runOf : RunOf → List ℕ → List ℕ → Low → Run
 runOf r kept = runWith r (take (r .kept) kept)
 
 -- before the first line
@@ -45,7 +45,7 @@ abbrev pub begins : RunOf
 begins = record { kept = 0; lines = 0; totals = noTotals }
 
 -- a line of this text ends: its answer is printed from a place on, and the run goes on after it
-pub record Ends (r : RunOf) (b b′ : List ℕ) (mem mem′ : Memory) (text out out′ : List ℕ) (at : ℕ) (e : Ended) : Type 0 where
+pub record Ends (r : RunOf) (b b′ : List ℕ) (mem mem′ : Low) (text out out′ : List ℕ) (at : ℕ) (e : Ended) : Type 0 where
   pub puts : Puts out out′ at (ends (runWith r text b mem) .out) (e .written)
   pub fresh : e .run .kept ≡ 0
   pub run : (kept′ : List ℕ) → runOf (e .run) kept′ b′ mem′ ≡ ends (runWith r text b mem) .run
@@ -59,7 +59,7 @@ pub record Ready (f : Fed) (kept piece out : List ℕ) : Type 0 where
   pub fits : f .written + room ≤ length out
 
 -- something is taken, and what is taken in all is what this turn takes and then the rest
-pub record Turns (f : Fed) (b b′ : List ℕ) (mem mem′ : Memory) (kept kept′ piece out out′ : List ℕ) (g : Fed) : Type 0 where
+pub record Turns (f : Fed) (b b′ : List ℕ) (mem mem′ : Low) (kept kept′ piece out out′ : List ℕ) (g : Fed) : Type 0 where
   pub said : List ℕ
   pub puts : Puts out out′ (f .written) said (g .written)
   pub few : g .run .kept ≤ enough
@@ -76,16 +76,16 @@ goesOn f piece out = ltb (f .taken) (length piece) && leb room (length out - f .
 -- the same run, whose number of bytes that are kept is no more than there are
 pub record Bounded (r r′ : RunOf) : Type 0 where
   pub few : r′ .kept ≤ enough
-  pub same : (kept b : List ℕ) (mem : Memory) → length kept ≡ enough → runOf r′ kept b mem ≡ runOf r kept b mem
+  pub same : (kept b : List ℕ) (mem : Low) → length kept ≡ enough → runOf r′ kept b mem ≡ runOf r kept b mem
 
-pub record Feeds (r : RunOf) (b b′ : List ℕ) (mem mem′ : Memory) (kept kept′ piece out out′ : List ℕ) (f : Fed) : Type 0 where
+pub record Feeds (r : RunOf) (b b′ : List ℕ) (mem mem′ : Low) (kept kept′ piece out out′ : List ℕ) (f : Fed) : Type 0 where
   pub within : f .taken ≤ length piece
   pub fits : f .written ≤ length out
   pub taken : _≡_ {A = Taken} (record { step = record { out = take (f .written) out′; run = runOf (f .run) kept′ b′ mem′ }; taken = f .taken })
       (taking (length out) (runOf r kept b mem) piece)
 
 -- ---- the input's end
-pub record Finishes (r : RunOf) (b b′ : List ℕ) (mem mem′ : Memory) (kept out′ : List ℕ) (n : ℕ) : Type 0 where
+pub record Finishes (r : RunOf) (b b′ : List ℕ) (mem mem′ : Low) (kept out′ : List ℕ) (n : ℕ) : Type 0 where
   pub fits : n ≤ length out′
   pub text : take n out′ ≡ finished (runOf r kept b mem)
   pub image : b′ ≡ lastLine (runOf r kept b mem) .run .image

@@ -2,10 +2,10 @@
 -- sound, by the rules' `SoundLaws`, so that its bytes say the same as its parts.
 use Prim.Native.Nat.{ℕ, suc}
 use mathlib.Core.Path.{_≡_, ap, sym, _∙_, subst}
-use mathlib.Core.List.{List, []}
+use mathlib.Core.List.{List}
 use Rattle.rules.specs.Bits.{AreBytes}
 use Rattle.rules.specs.Image.{Image, started, decode}
-use Rattle.rules.specs.Memory.{Memory}
+use Rattle.rules.specs.Memory.{Memory, empty}
 use Rattle.rules.specs.Refusals.{Request, start, refusal}
 use Rattle.rules.specs.Calls.{accepted, Outcome}
 use Rattle.rules.proofs.ImageLaws.{encode-bytes, decode-encode}
@@ -22,14 +22,14 @@ call-bytes b mem q h (refused n e) = h
 
 are-bytes : (h : History) → AreBytes (bytes h)
 unfolding bytes
-are-bytes (begun b w ok) = subst (λ (o : Outcome). AreBytes (o .image)) (sym (call-accepted b [] (start w) ok)) (encode-bytes (started w))
+are-bytes (begun b w ok) = subst (λ (o : Outcome). AreBytes (o .image)) (sym (call-accepted b empty (start w) ok)) (encode-bytes (started w))
 are-bytes (h then q with mem) = call-bytes (bytes h) mem q (are-bytes h) (called (bytes h) mem q)
 
 -- ---- the image after start; after a call, which was accepted or refused
-pub image-start : (b : List ℕ) (w : ℕ) (ok : refusal b [] (start w) ≡ 0) → image (begun b w ok) ≡ started w
+pub image-start : (b : List ℕ) (w : ℕ) (ok : refusal b empty (start w) ≡ 0) → image (begun b w ok) ≡ started w
 unfolding bytes
 image-start b w ok =
-    ap (λ (o : Outcome). decode (o .image)) (call-accepted b [] (start w) ok) ∙ decode-encode (started w) (sound-started w (given b [] (start w) ok .2))
+    ap (λ (o : Outcome). decode (o .image)) (call-accepted b empty (start w) ok) ∙ decode-encode (started w) (sound-started w (given b empty (start w) ok .2))
 
 pub image-cases : (h : History) (mem : Memory) (q : Request) (C : Image → Type 0) → (Accepted h mem q → C (accepted (image h) mem q .image))
     → ((n : ℕ) → refusal (bytes h) mem q ≡ suc n → C (image h)) → C (image (h then q with mem))

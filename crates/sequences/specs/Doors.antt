@@ -6,7 +6,7 @@ use mathlib.Core.Bool.{true, false, cond}
 use mathlib.Core.List.{List, [], _∷_, _++_}
 use lib.ListN.{length}
 use lib.Dec.{eqb}
-use Rattle.rules.specs.Memory.{Memory}
+use Rattle.rules.specs.Memory.{Memory, empty}
 use Rattle.rules.specs.Answers.{numbers, recordBytes}
 use Rattle.rules.specs.Refusals.{Request, start, refusal}
 use Rattle.rules.specs.Calls.{written, call, door}
@@ -34,13 +34,13 @@ leftOf h mem (p ∷ ps) = leftOf (h then asks p with mem) (call (bytes h) mem (a
 infixl 20 _then_with_into_
 infixl 20 _then-many_with_into_
 pub data Doors : Type 0 where
-  opened : (answer image : List ℕ) (width : ℕ) → length answer ≡ 32 → refusal image [] (start width) ≡ 0 → Doors
+  opened : (answer image : List ℕ) (width : ℕ) → length answer ≡ 32 → refusal image empty (start width) ≡ 0 → Doors
   _then_with_into_ : Doors → Request → Memory → List ℕ → Doors
   _then-many_with_into_ : Doors → (pairs : List ℕ) → Memory → (answers : List ℕ) → Doors
 
 -- the image's bytes that the last call left
 abbrev pub doorBytes : Doors → List ℕ
-doorBytes (opened r b w long ok) = door r b [] (start w) .image
+doorBytes (opened r b w long ok) = door r b empty (start w) .image
 doorBytes (d then q with mem into r) = door r (doorBytes d) mem q .image
 doorBytes (d then-many ps with mem into rs) = many rs (doorBytes d) mem ps .image
 

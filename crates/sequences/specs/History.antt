@@ -3,21 +3,21 @@
 use Prim.Native.Nat.{ℕ}
 use mathlib.Core.Path.{_≡_}
 use mathlib.Core.Bool.{Bool}
-use mathlib.Core.List.{List, []}
+use mathlib.Core.List.{List}
 use lib.Dec.{eqb}
 use Rattle.rules.specs.Image.{Image, decode}
-use Rattle.rules.specs.Memory.{Memory}
+use Rattle.rules.specs.Memory.{Memory, empty}
 use Rattle.rules.specs.Refusals.{Request, start, refusal}
 use Rattle.rules.specs.Calls.{call}
 
 infixl 20 _then_with_
 pub data History : Type 0 where
-  begun : (image : List ℕ) (width : ℕ) → refusal image [] (start width) ≡ 0 → History
+  begun : (image : List ℕ) (width : ℕ) → refusal image empty (start width) ≡ 0 → History
   _then_with_ : History → Request → Memory → History
 
 -- the bytes that the last call left
 unfoldable pub bytes : History → List ℕ
-bytes (begun b w ok) = call b [] (start w) .image
+bytes (begun b w ok) = call b empty (start w) .image
 bytes (h then q with mem) = call (bytes h) mem q .image
 
 -- and the image that they say

@@ -10,11 +10,10 @@ use lib.Dec.{eqb, eqb·suc-zero}
 use lib.ListN.{length, take}
 use lib.Seq.{take-nil}
 use borrow.Author.Tests.{le-leb, lt-leb}
-use Rattle.rules.specs.Memory.{Memory}
 use Rattle.rules.specs.Answers.{Words}
 use Rattle.trace.specs.Text.{feed, onto, parted, linesOf}
 use Rattle.trace.specs.Orders.{orderOf}
-use Rattle.trace.specs.Does.{Given, does, lineDoes}
+use Rattle.trace.specs.Does.{Low, Given, does, lineDoes}
 use Rattle.trace.specs.Printed.{printed, totalLine}
 use Rattle.trace.specs.Totals.{counted}
 use Rattle.trace.specs.Trace.{most, answers, printedFrom, answersTo, noImage, noMemory}
@@ -118,7 +117,7 @@ run-all (b ∷ bs) g (suc k) r q = go (eqb b feed) refl (run-all bs)
         (record { text = rw (q .text) (take-start enough g (b ∷ [])); lines = q .lines })
         ∙ ap (λ (ls : List (List ℕ)). rest r (take (suc k) ls)) (front-more g b (linesOf bs))
 
-answers-few : (n : ℕ) (ls : List (List ℕ)) (b : List ℕ) (mem : Memory) → length (answers (take n ls) b mem) ≤ n
+answers-few : (n : ℕ) (ls : List (List ℕ)) (b : List ℕ) (mem : Low) → length (answers (take n ls) b mem) ≤ n
 unfolding answers
 answers-few zero ls b mem = omega arith
 answers-few (suc n) [] b mem = omega arith

@@ -5,9 +5,8 @@ use mathlib.Core.Bool.{Bool, cond, _||_}
 use mathlib.Core.List.{List, [], _∷_, _++_}
 use lib.ListN.{length, take}
 use lib.Dec.{leb, ltb, eqb}
-use Rattle.rules.specs.Memory.{Memory}
 use Rattle.trace.specs.Text.{feed}
-use Rattle.trace.specs.Does.{Given, lineDoes}
+use Rattle.trace.specs.Does.{Low, Given, lineDoes}
 use Rattle.trace.specs.Printed.{printed, totalLine}
 use Rattle.trace.specs.Totals.{counted, noTotals}
 use Rattle.trace.specs.Trace.{most, noImage, noMemory}
@@ -19,7 +18,7 @@ pub record Run : Type 0 where
   pub lines : ℕ
   pub totals : Totals
   pub image : List ℕ
-  pub memory : Memory
+  pub memory : Low
 
 abbrev pub begun : Run
 begun = record { text = []; lines = 0; totals = noTotals; image = noImage; memory = noMemory }

@@ -2,10 +2,9 @@
 use Prim.Native.Nat.{ℕ, _+_, _-_, _^_}
 use mathlib.Core.List.{List, [], _∷_, _++_}
 use lib.ListN.{take, replicate}
-use Rattle.rules.specs.Memory.{Memory}
 use Rattle.rules.specs.Answers.{Words}
 use Rattle.trace.specs.Text.{linesOf}
-use Rattle.trace.specs.Does.{Given, lineDoes}
+use Rattle.trace.specs.Does.{Low, Given, lineDoes}
 use Rattle.trace.specs.Printed.{printed, totalLine}
 use Rattle.trace.specs.Totals.{totalsOf}
 
@@ -17,11 +16,11 @@ most = 2 ^ 32 - 1
 abbrev pub noImage : List ℕ
 noImage = replicate 2048 0
 
-abbrev pub noMemory : Memory
+abbrev pub noMemory : Low
 noMemory = replicate 65536 0
 
 -- the answers to lines, each given what the one before left
-unfoldable pub answers : List (List ℕ) → List ℕ → Memory → List Words
+unfoldable pub answers : List (List ℕ) → List ℕ → Low → List Words
 answers [] b mem = []
 answers (l ∷ ls) b mem = let g : Given = lineDoes l b mem in g .answer ∷ answers ls (g .image) (g .memory)
 

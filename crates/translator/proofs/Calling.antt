@@ -2,12 +2,12 @@
 use Prim.Native.Nat.{ℕ, zero, suc, _+_, _%_, _^_, _≤_, _<_}
 use mathlib.Core.Path.{_≡_, refl, ap, ap₂, sym, _∙_, subst}
 use mathlib.Core.Bool.{Bool, true, false, _&&_, not}
-use mathlib.Core.List.{List, []}
+use mathlib.Core.List.{List}
 use native.Mathlib.Omega.{arith}
 use lib.ListN.{length, replicate, length-replicate}
 use Rattle.rules.specs.Bits.{AreBytes, isOn, wordAt, wordPut}
 use Rattle.rules.specs.Image.{Image, started, encode, decode, control, pcid, Sound, IsImage}
-use Rattle.rules.specs.Memory.{Memory}
+use Rattle.rules.specs.Memory.{Memory, empty}
 use Rattle.rules.specs.Refusals.{Request, start, invlpg, invpcid, writeCr3, writeMode, canonical, refusal}
 use Rattle.rules.specs.Calls.{withCr3, withFlags, isSame, sameMode, invpcidDrops, accepted, done, Outcome, encoded, byNumber}
 use Rattle.rules.specs.Buffer.{matches, ofPcid, dropped}
@@ -21,12 +21,12 @@ use Rattle.drops.specs.Drops.{droppedIn, every, notGlobal, everyOf, everyOfAt}
 use Rattle.translator.specs.Contract.{Leaves}
 
 -- ---- refused, or accepted
-pub refuses : (q : Request) (b : List ℕ) (n : ℕ) → ((mem : Memory) → refusal b mem q ≡ refusal b [] q) → n ≡ refusal b [] q → (n ≡ 0 → ⊥)
+pub refuses : (q : Request) (b : List ℕ) (n : ℕ) → ((mem : Memory) → refusal b mem q ≡ refusal b empty q) → n ≡ refusal b empty q → (n ≡ 0 → ⊥)
     → Leaves q b b (Refused n)
 refuses q b zero f h g = absurd (g refl)
 refuses q b (suc n) f h g = record { outcome = λ mem. sym (ap (byNumber b mem q) (f mem ∙ sym h)) }
 
-accepts : (q : Request) (b b′ : List ℕ) (n : ℕ) (r : Answer) → ((mem : Memory) → refusal b mem q ≡ refusal b [] q) → n ≡ refusal b [] q → n ≡ 0
+accepts : (q : Request) (b b′ : List ℕ) (n : ℕ) (r : Answer) → ((mem : Memory) → refusal b mem q ≡ refusal b empty q) → n ≡ refusal b empty q → n ≡ 0
     → ((mem : Memory) → _≡_ {A = Outcome} (record { answer = r; image = b′; memory = mem }) (encoded (accepted (decode b) mem q)))
     → Leaves q b b′ r
 accepts q b b′ n r f h z g = record { outcome = λ mem. g mem ∙ sym (ap (byNumber b mem q) (f mem ∙ sym h ∙ z)) }
@@ -36,15 +36,15 @@ started-bytes : (w : ℕ) → wordPut (replicate 2048 0) 0 w ≡ encode (started
 unfolding encode
 started-bytes w = refl
 
-pub starts : (w n : ℕ) (b b₁ b₂ : List ℕ) → n ≡ refusal b [] (start w) → n ≡ 0 → b₁ ≡ replicate (length b) 0 → b₂ ≡ wordPut b₁ 0 w
+pub starts : (w n : ℕ) (b b₁ b₂ : List ℕ) → n ≡ refusal b empty (start w) → n ≡ 0 → b₁ ≡ replicate (length b) 0 → b₂ ≡ wordPut b₁ 0 w
     → Leaves (start w) b b₂ Done
 starts w n b b₁ b₂ h z e₁ e₂ =
-    let l : length b ≡ 2048 = given b [] (start w) (sym h ∙ z) .0 in
+    let l : length b ≡ 2048 = given b empty (start w) (sym h ∙ z) .0 in
     let q : b₂ ≡ encode (started w) = e₂ ∙ ap (λ (x : List ℕ). wordPut x 0 w) (e₁ ∙ ap (λ (k : ℕ). replicate {A = ℕ} k 0) l) ∙ started-bytes w in
     accepts (start w) b b₂ n Done (λ mem. refl) h z (λ mem. λ i. record { answer = Done; image = q i; memory = mem })
 
-pub room : (w n : ℕ) (b b₁ : List ℕ) → n ≡ refusal b [] (start w) → n ≡ 0 → b₁ ≡ replicate (length b) 0 → 0 + 8 ≤ length b₁
-room w n b b₁ h z e = omega (arith, given b [] (start w) (sym h ∙ z) .0, ap length e ∙ length-replicate (length b) 0)
+pub room : (w n : ℕ) (b b₁ : List ℕ) → n ≡ refusal b empty (start w) → n ≡ 0 → b₁ ≡ replicate (length b) 0 → 0 + 8 ≤ length b₁
+room w n b b₁ h z e = omega (arith, given b empty (start w) (sym h ∙ z) .0, ap length e ∙ length-replicate (length b) 0)
 
 -- ---- a call other than start that is accepted was given an image
 pub call-long : (q : Request) (b : List ℕ) (mem : Memory) (n : ℕ) → Later q → n ≡ refusal b mem q → n ≡ 0 → length b ≡ 2048
@@ -57,13 +57,13 @@ pub call-image : (q : Request) (b : List ℕ) (mem : Memory) (n : ℕ) → Later
 call-image q b mem n l bytes h z = fit-image b bytes (fits q b mem l (sym h ∙ z))
 
 -- ---- a call that is done leaves the bytes of the image that the rules say
-does : (q : Request) (b b′ : List ℕ) (n : ℕ) (s′ : Image) → ((mem : Memory) → refusal b mem q ≡ refusal b [] q)
-    → ((mem : Memory) → accepted (decode b) mem q ≡ done s′ mem) → n ≡ refusal b [] q → n ≡ 0 → b′ ≡ encode s′ → Leaves q b b′ Done
+does : (q : Request) (b b′ : List ℕ) (n : ℕ) (s′ : Image) → ((mem : Memory) → refusal b mem q ≡ refusal b empty q)
+    → ((mem : Memory) → accepted (decode b) mem q ≡ done s′ mem) → n ≡ refusal b empty q → n ≡ 0 → b′ ≡ encode s′ → Leaves q b b′ Done
 does q b b′ n s′ f g h z e =
     accepts q b b′ n Done f h z (λ mem. (λ i. record { answer = Done; image = e i; memory = mem }) ∙ ap encoded (sym (g mem)))
 
 -- ---- INVLPG
-module _ (a n : ℕ) (b : List ℕ) (k : Bool) (h : n ≡ refusal b [] (invlpg a)) (z : n ≡ 0) (kind : (c : Control) → k ≡ canonical c a) where
+module _ (a n : ℕ) (b : List ℕ) (k : Bool) (h : n ≡ refusal b empty (invlpg a)) (z : n ≡ 0) (kind : (c : Control) → k ≡ canonical c a) where
   pub invlpg-drops : k ≡ true → (p : ℕ) (b′ : List ℕ) → p ≡ pcid (decode b) → b′ ≡ droppedIn (matches p a) b → Leaves (invlpg a) b b′ Done
   unfolding droppedIn
   invlpg-drops t p b′ hp e =
@@ -76,7 +76,7 @@ module _ (a n : ℕ) (b : List ℕ) (k : Bool) (h : n ≡ refusal b [] (invlpg a
       (rw (← kind (control (decode b)), t) (sym (was .says)))
 
 -- ---- INVPCID, by its type
-module _ (t p a n : ℕ) (b b′ : List ℕ) (h : n ≡ refusal b [] (invpcid t p a)) (z : n ≡ 0) where
+module _ (t p a n : ℕ) (b b′ : List ℕ) (h : n ≡ refusal b empty (invpcid t p a)) (z : n ≡ 0) where
   by-type : (u : ℕ) → t ≡ u → b′ ≡ droppedIn (invpcidDrops u p a) b → Leaves (invpcid t p a) b b′ Done
   unfolding droppedIn
   by-type u q e =
@@ -103,10 +103,10 @@ module _ (t p a n : ℕ) (b b′ : List ℕ) (h : n ≡ refusal b [] (invpcid t 
 
   -- the PCID is one of 4,096
   pub asked-pcid-lt : p < 4096
-  asked-pcid-lt = omega (arith, given b [] (invpcid t p a) (sym h ∙ z) .1)
+  asked-pcid-lt = omega (arith, given b empty (invpcid t p a) (sym h ∙ z) .1)
 
 -- ---- a CR3 write
-module _ (v n : ℕ) (b b₁ : List ℕ) (was : IsImage b) (h : n ≡ refusal b [] (writeCr3 v)) (z : n ≡ 0) (put : b₁ ≡ wordPut b 16 (v % 2 ^ 63)) where
+module _ (v n : ℕ) (b b₁ : List ℕ) (was : IsImage b) (h : n ≡ refusal b empty (writeCr3 v)) (z : n ≡ 0) (put : b₁ ≡ wordPut b 16 (v % 2 ^ 63)) where
   abbrev rooted : Image
   rooted = withCr3 (v % 2 ^ 63) (decode b)
 
@@ -135,7 +135,7 @@ module _ (v n : ℕ) (b b₁ : List ℕ) (was : IsImage b) (h : n ≡ refusal b 
       (rw (← e, t) (d ∙ ap₂ (λ (y : ℕ) (s : Image). encode (dropped (λ i u. ofPcid y u) s)) (hp ∙ ap pcid r) r))
 
 -- ---- a mode write
-module _ (v n f : ℕ) (b b₁ : List ℕ) (was : IsImage b) (h : n ≡ refusal b [] (writeMode v)) (z : n ≡ 0) (old : f ≡ wordAt b 8)
+module _ (v n f : ℕ) (b b₁ : List ℕ) (was : IsImage b) (h : n ≡ refusal b empty (writeMode v)) (z : n ≡ 0) (old : f ≡ wordAt b 8)
     (put : b₁ ≡ wordPut b 8 v) where
   abbrev moded : Image
   moded = withFlags v (decode b)
@@ -144,7 +144,7 @@ module _ (v n f : ℕ) (b b₁ : List ℕ) (was : IsImage b) (h : n ≡ refusal 
   moded-bytes = put ∙ sym (flags-bytes v (decode b) ∙ ap (λ (x : List ℕ). wordPut x 8 v) (was .says))
 
   moded-sound : Sound moded
-  moded-sound = sound-flags v (decode b) (omega (arith, given b [] (writeMode v) (sym h ∙ z) .1)) (was .sound)
+  moded-sound = sound-flags v (decode b) (omega (arith, given b empty (writeMode v) (sym h ∙ z) .1)) (was .sound)
 
   pub mode-image : IsImage b₁
   mode-image = subst IsImage (sym moded-bytes) (is-encoded moded moded-sound)

@@ -1,14 +1,13 @@
 -- The ways through a translation: refused; answered with paging off; and with paging on by a page that is held, or by the walk. Each leaves what the rules' call does.
-use Prim.Native.Nat.{ℕ, zero, suc, _%_, _≤_}
+use Prim.Native.Nat.{ℕ, zero, suc, _≤_}
 use mathlib.Core.Path.{_≡_, refl, ap, sym, _∙_, subst}
 use mathlib.Core.Bool.{Bool, true, false, not}
 use mathlib.Core.List.{List}
-use native.Mathlib.Omega.{arith}
 use lib.ListN.{length}
 use borrow.Author.Tests.{not-true, not-false}
 use Rattle.rules.specs.Bits.{AreBytes}
 use Rattle.rules.specs.Image.{decode, pg}
-use Rattle.rules.specs.Memory.{Memory}
+use Rattle.rules.specs.Memory.{Memory, Whole}
 use Rattle.rules.specs.Buffer.{find}
 use Rattle.rules.specs.Refusals.{translate, refusal}
 use Rattle.rules.specs.Calls.{After, accessOf, looked, translated, encoded, accepted}
@@ -16,6 +15,7 @@ use Rattle.rules.specs.declared.Answer.{Answer}
 use Rattle.rules.specs.declared.Answer.the-variants.{Address, Refused}
 use Rattle.rules.proofs.CallLaws.{call-accepted, call-refused}
 use Rattle.rules.proofs.FitLaws.{fit-passes}
+use Rattle.rules.proofs.MemoryLaws.{whole as memory-whole}
 use Rattle.rules.proofs.RefusalLaws.{Given, given, fit-image}
 use Rattle.refusals.specs.Asked.{Asked}
 use Rattle.paging.specs.declared.Held.{Held}
@@ -50,14 +50,14 @@ module _ (b : List ℕ) (mem : Memory) (k a ac : ℕ) (x : Accepts b mem k a ac)
   long = was .0 .long
 
   -- paging is as it was asked
-  paging : (u p : Bool) (m : ℕ) → Asked b mem u m p → p ≡ pg (decode b .flags)
-  paging u p m asked = asked .paging (asked .image ∙ fit-passes b (was .0))
+  paging : (u m p : Bool) → Asked b mem u m p → p ≡ pg (decode b .flags)
+  paging u m p asked = asked .paging (asked .image ∙ fit-passes b (was .0))
 
-  pub paging-on : (u p : Bool) (m : ℕ) → Asked b mem u m p → not p ≡ false → pg (decode b .flags) ≡ true
-  paging-on u p m asked e = sym (paging u p m asked) ∙ not-false p e
+  pub paging-on : (u m p : Bool) → Asked b mem u m p → not p ≡ false → pg (decode b .flags) ≡ true
+  paging-on u m p asked e = sym (paging u m p asked) ∙ not-false p e
 
-  pub paging-off : (u p : Bool) (m : ℕ) → Asked b mem u m p → not p ≡ true → pg (decode b .flags) ≡ false
-  paging-off u p m asked e = sym (paging u p m asked) ∙ not-true p e
+  pub paging-off : (u m p : Bool) → Asked b mem u m p → not p ≡ true → pg (decode b .flags) ≡ false
+  paging-off u m p asked e = sym (paging u m p asked) ∙ not-true p e
 
   pub known : k ≤ 5
   known = was .1
@@ -65,8 +65,8 @@ module _ (b : List ℕ) (mem : Memory) (k a ac : ℕ) (x : Accepts b mem k a ac)
   pub usable : Usable b
   usable = record { image = fit-image b (x .bytes) (was .0); wide = was .0 .wide; narrow = was .0 .narrow }
 
-  pub whole : length mem % 8 ≡ 0
-  whole = omega (arith, was .2)
+  pub whole : Whole mem
+  whole = memory-whole mem (was .2)
 
   accepts-it : (o : After) → accepted (decode b) mem (translate k a ac) ≡ o → (b′ : List ℕ) (mem′ : Memory) (r : Answer) → Encodes o b′ mem′ r
       → Translates (translate k a ac) b b′ mem mem′ r

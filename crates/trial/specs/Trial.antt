@@ -5,7 +5,7 @@ use mathlib.Core.Bool.{Bool, true, false, _&&_}
 use mathlib.Core.List.{List, []}
 use lib.ListN.{replicate}
 use lib.Dec.{eqb}
-use Rattle.rules.specs.Memory.{Memory}
+use Rattle.rules.specs.Memory.{both, empty}
 use Rattle.rules.specs.Answers.{numbers}
 use Rattle.rules.specs.Refusals.{Request, start, writeCr3, writeMode}
 use Rattle.rules.specs.Calls.{call}
@@ -16,7 +16,7 @@ use Rattle.trial.specs.declared.report.Tally.{Tally}
 
 -- the image before a case: the state is reached by the calls themselves
 abbrev pub ready : List ℕ
-ready = call (call (call (replicate 2048 0) [] (start 40) .image) [] (writeCr3 0x1000) .image) [] (writeMode 23) .image
+ready = call (call (call (replicate 2048 0) empty (start 40) .image) empty (writeCr3 0x1000) .image) empty (writeMode 23) .image
 
 -- what is told of an answer is its numbers, without the page size
 pub record Tells (a : Answer) (o : Told) : Type 0 where
@@ -30,9 +30,10 @@ pub record Came (q : Request) (b b′ : List ℕ) (o : Told) : Type 0 where
   pub leaves : Leaves q b b′ answer
   pub tells : Tells answer o
 
-pub record CameWith (q : Request) (b b′ : List ℕ) (mem mem′ : Memory) (o : Told) : Type 0 where
+-- the guest has low alone
+pub record CameWith (q : Request) (b b′ low low′ : List ℕ) (o : Told) : Type 0 where
   pub answer : Answer
-  pub leaves : Translates q b b′ mem mem′ answer
+  pub leaves : Translates q b b′ (both low []) (both low′ []) answer
   pub tells : Tells answer o
 
 -- ---- the tally

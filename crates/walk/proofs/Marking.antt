@@ -10,8 +10,9 @@ use native.Mathlib.Decide.{decLt, ℕ-discrete}
 use lib.ListN.{length, getD, set}
 use lib.Seq.{set-set, getD-set-same}
 use lib.Bits.{bitAnd, bitOr, and-zero-r, or-add-and}
+use borrow.Author.Tests.{lt-ltb, le-ltb}
 use Rattle.rules.specs.Bits.{isOn, withBit, part, one}
-use Rattle.rules.specs.Memory.{Memory, entryAt, added}
+use Rattle.rules.specs.Memory.{Memory, both, highBase, entryIn, addedIn, entryAt, added, Whole}
 use Rattle.rules.specs.Entries.{Entry, absent, bad, page, table, sorted, says, isPage, next, also}
 use Rattle.rules.specs.Walk.{place, Leaf, End, reached, stuck, Reach, step, reach, accessed, dirtied}
 use Rattle.rules.specs.declared.Control.{Control}
@@ -20,12 +21,14 @@ use Rattle.rules.specs.declared.Cause.{Cause}
 use Rattle.rules.proofs.BoolLaws.{or-left}
 use Rattle.rules.proofs.BitLaws.{part-high, set-other, one-le, on-one}
 use Rattle.rules.proofs.FormatLaws.{isCommon, says-by-size}
-use Rattle.rules.proofs.MemoryLaws.{added-outside, added-order}
+use Rattle.rules.proofs.PartLaws.{added-outside}
+use Rattle.rules.proofs.MemoryLaws.{added-order}
 use Rattle.rules.proofs.Grown.{grown-added}
 use Rattle.rules.proofs.WalkLaws.{reach-step, endLevel, end-low, last-table}
 use Rattle.words.proofs.Masks.{and-flag}
-use Rattle.walk.specs.Packed.{slid, bitsOf, markedAt, LeadsAlike, MarkedDown}
+use Rattle.walk.specs.Packed.{slid, bitsOf, markedIn, MarksIn, markedAt, Marks, LeadsAlike, MarkedDown}
 use Rattle.walk.proofs.Masks.{cut}
+use Rattle.walk.proofs.Ways.{in-high}
 use Rattle.walk.proofs.Steps.{slid-index, slid-next, narrow}
 
 -- ---- a byte and its marks
@@ -40,15 +43,38 @@ or-both x =
     rw (set-other 5 6 x (omega arith))
     (omega (arith, or-add-and x 96, and-flag 6 x 32 (omega arith) true, and-accessed x, on-one 5 x, on-one 6 x, one-le (isOn 5 x), one-le (isOn 6 x)))
 
-pub mark-inside : (mem : Memory) (at bits : ℕ) → at < length mem → (dirty : Bool) → bits ≡ bitsOf dirty
-    → set mem at (bitOr (getD mem at 0) bits) ≡ markedAt dirty at mem
-mark-inside mem at bits h false q = rw (q, or-accessed (getD mem at 0))
-mark-inside mem at bits h true q =
-    rw (q, or-both (getD mem at 0), set-set mem at (withBit 6 (getD mem at 0)), getD-set-same mem at (withBit 6 (getD mem at 0)) 0 h)
+-- ---- the ways out of `mark_in`
+module _ (part : List ℕ) (at bits e : ℕ) (reads : e ≡ entryIn part at) where
+  set-marks : at < length part → (dirty : Bool) → bits ≡ bitsOf dirty → set part at (bitOr (getD part at 0) bits) ≡ markedIn dirty at part
+  set-marks h false q = rw (q, or-accessed (getD part at 0))
+  set-marks h true q =
+      rw (q, or-both (getD part at 0), set-set part at (withBit 6 (getD part at 0)), getD-set-same part at (withBit 6 (getD part at 0)) 0 h)
 
-pub mark-outside : (mem : Memory) (at bits : ℕ) → length mem ≤ at → (dirty : Bool) → bits ≡ bitsOf dirty → mem ≡ markedAt dirty at mem
-mark-outside mem at bits h false q = sym (added-outside 5 at mem h)
-mark-outside mem at bits h true q = sym (ap (added 5 at) (added-outside 6 at mem h) ∙ added-outside 5 at mem h)
+  pub mark-inside : at < length part → MarksIn part (set part at (bitOr (getD part at 0) bits)) at bits e
+  mark-inside h = record { entry = reads; marked = set-marks h }
+
+  not-set : length part ≤ at → (dirty : Bool) → bits ≡ bitsOf dirty → part ≡ markedIn dirty at part
+  not-set h false q = sym (added-outside 5 at part h)
+  not-set h true q = sym (ap (addedIn 5 at) (added-outside 6 at part h) ∙ added-outside 5 at part h)
+
+  pub mark-outside : length part ≤ at → MarksIn part part at bits e
+  mark-outside h = record { entry = reads; marked = not-set h }
+
+-- ---- and of `mark`
+module _ (low high : List ℕ) (at bits e : ℕ) where
+  pub mark-low : at < highBase → (low′ : List ℕ) → MarksIn low low′ at bits e → Marks (both low high) (both low′ high) at bits e
+  mark-low h low′ m = record { entry = m .entry ∙ rw (lt-ltb at highBase h); marked = go }
+    where
+      go : (dirty : Bool) → bits ≡ bitsOf dirty → both low′ high ≡ markedAt dirty at (both low high)
+      go true q = rw (lt-ltb at highBase h) (ap (λ (l : List ℕ). both l high) (m .marked true q))
+      go false q = rw (lt-ltb at highBase h) (ap (λ (l : List ℕ). both l high) (m .marked false q))
+
+  pub mark-high : highBase ≤ at → (high′ : List ℕ) → MarksIn high high′ (at - highBase) bits e → Marks (both low high) (both low high′) at bits e
+  mark-high h high′ m = record { entry = in-high low high at h e (m .entry); marked = go }
+    where
+      go : (dirty : Bool) → bits ≡ bitsOf dirty → both low high′ ≡ markedAt dirty at (both low high)
+      go true q = rw (le-ltb at highBase h) (ap (both low) (m .marked true q))
+      go false q = rw (le-ltb at highBase h) (ap (both low) (m .marked false q))
 
 -- ---- where a walk that reaches a page has it: in the entry of this level, or beyond the next table
 abbrev atOf : End → ℕ
@@ -137,7 +163,7 @@ dirtied-later false x at mem = refl
 leads-later : (rd : ℕ → ℕ) (at : ℕ) (mem : Memory) → at % 8 ≡ 0 → LeadsAlike rd mem → LeadsAlike rd (added 5 at mem)
 leads-later rd at mem e f i h = f i h ∙ part-high 7 52 12 _ _ (omega arith) (grown-added 5 at mem (omega arith) (omega arith) e .entries i h .high)
 
--- ---- the ways out of `mark_down`
+-- ---- the ways through `mark_down`: at the page, and at a table
 module _ (mem : Memory) (x level base last bits at : ℕ) (stands : at ≡ base + 8 * (x / 2 ^ 55)) where
   stands-at : (a : ℕ) → level ≤ 4 → x ≡ slid level a → at ≡ place level base a
   stands-at a high hx = stands ∙ ap (λ (z : ℕ). base + 8 * z) (ap (λ (z : ℕ). z / 2 ^ 55) hx ∙ slid-index level a high)
@@ -172,3 +198,37 @@ module _ (mem : Memory) (x level base last bits at : ℕ) (stands : at ≡ base 
               ∙ accessed-later way at (dirtied dirty (p .at) mem)
               ∙ ap (λ (l : List ℕ). accessed l (dirtied dirty (p .at) mem)) (sym path′);
         }
+
+-- before each turn: what is left to do, once it is done, is the whole
+pub record Going (low₀ high₀ : List ℕ) (root a last bits : ℕ) (low high : List ℕ) (base x level : ℕ) : Type 0 where
+  pub sameLow : length low ≡ length low₀
+  pub sameHigh : length high ≡ length high₀
+  pub whole : Whole (both low high)
+  pub below : base < 2 ^ 52
+  pub eight : base % 8 ≡ 0
+  pub rest : (mem′ : Memory) → MarkedDown (both low high) mem′ x level base last bits → MarkedDown (both low₀ high₀) mem′ (slid 4 a) 4 root last bits
+
+pub going-none : (low high : List ℕ) (root a last bits : ℕ) → root < 2 ^ 52 → root % 8 ≡ 0 → Whole (both low high)
+    → Going low high root a last bits low high root (a * 2 ^ 16 % 2 ^ 64) 4
+going-none low high root a last bits h e w =
+    record { sameLow = refl; sameHigh = refl; whole = w; below = h; eight = e; rest = λ mem′ d. d }
+
+module _ (low₀ high₀ : List ℕ) (root a last bits : ℕ) (low high : List ℕ) (base x level : ℕ) (g : Going low₀ high₀ root a last bits low high base x level)
+    (at e : ℕ) (low₁ high₁ : List ℕ) (stands : at ≡ base + 8 * (x / 2 ^ 55)) where
+  pub going-more : last < level → at % 8 ≡ 0 → Marks (both low high) (both low₁ high₁) at 32 e → length low₁ ≡ length low → length high₁ ≡ length high
+      → (to : ℕ) → to ≡ part 52 12 e → to < 2 ^ 52 → to % 8 ≡ 0 → Going low₀ high₀ root a last bits low₁ high₁ to (x * 2 ^ 9 % 2 ^ 64) (level - 1)
+  going-more more i m hl hh to leads h t =
+      record {
+        sameLow = hl ∙ g .sameLow;
+        sameHigh = hh ∙ g .sameHigh;
+        whole = record { low = rw hl (g .whole .low); high = rw hh (g .whole .high); below = rw hl (g .whole .below) };
+        below = h;
+        eight = t;
+        rest =
+            λ mem′ d.
+            g .rest mem′
+            (way-table (both low high) x level base last bits at stands more i e (m .entry) (both low₁ high₁) (m .marked) to leads mem′ d);
+      }
+
+  pub going-all : level ≤ last → Marks (both low high) (both low₁ high₁) at bits e → MarkedDown (both low₀ high₀) (both low₁ high₁) (slid 4 a) 4 root last bits
+  going-all h m = g .rest (both low₁ high₁) (way-leaf (both low high) x level base last bits at stands h (both low₁ high₁) (m .marked))

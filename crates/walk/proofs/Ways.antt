@@ -2,32 +2,45 @@
 use Prim.Native.Nat.{ℕ, _+_, _-_, _*_, _/_, _%_, _^_, _≤_, _<_}
 use mathlib.Core.Path.{_≡_, ap, sym, _∙_}
 use mathlib.Core.Bool.{Bool, true, false, not}
+use mathlib.Core.List.{List}
 use native.Mathlib.Omega.{arith}
 use lib.ListN.{length}
 use lib.Dec.{ltb, eqb}
 use lib.Bits.{bitAnd}
-use borrow.Author.Tests.{eq-eqb, ne-eqb, le-leb, lt-leb}
+use borrow.Author.Tests.{eq-eqb, ne-eqb, lt-ltb, le-ltb, le-leb, lt-leb}
 use Rattle.rules.specs.Bits.{isOn, wordAt, one}
 use Rattle.rules.specs.Image.{nxe}
-use Rattle.rules.specs.Memory.{Memory, entryAt}
+use Rattle.rules.specs.Memory.{both, highBase, entryIn, entryAt, Whole}
 use Rattle.rules.specs.Formats.{rows, rangesOf}
 use Rattle.rules.specs.declared.Control.{Control}
 use Rattle.rules.specs.declared.Cause.the-variants.{NotPresent, Reserved, Protection}
 use Rattle.rules.specs.declared.Found.the-variants.{Page, Fault}
 use Rattle.rules.proofs.BitLaws.{one-le, on-one}
-use Rattle.rules.proofs.MemoryLaws.{entry-inside, entry-outside}
+use Rattle.rules.proofs.PartLaws.{entry-inside, entry-outside}
+use Rattle.rules.proofs.MemoryLaws.{entry-hole}
 use Rattle.formats.specs.Ranges.{maskOf}
 use Rattle.formats.proofs.Laws.{common-sum}
 use Rattle.formats.proofs.Testing.{mask-test}
 use Rattle.walk.specs.Packed.{rightsOf, accessedIn, barsOf, packPage, unpackOf, isReservedPage}
 use Rattle.walk.proofs.Masks.{not-not}
 
--- ---- entry
-pub inside : (mem : Memory) (at r : ℕ) → at % 8 ≡ 0 → length mem % 8 ≡ 0 → at < length mem → r ≡ wordAt mem at → r ≡ entryAt mem at
-inside mem at r h g l e = e ∙ sym (entry-inside at mem (omega arith))
+-- ---- entry_in
+pub inside : (part : List ℕ) (at r : ℕ) → at % 8 ≡ 0 → length part % 8 ≡ 0 → at < length part → r ≡ wordAt part at → r ≡ entryIn part at
+inside part at r h g l e = e ∙ sym (entry-inside at part (omega arith))
 
-pub outside : (mem : Memory) (at : ℕ) → length mem ≤ at → 0xFFFFFFFFFFFFFFFF ≡ entryAt mem at
-outside mem at h = sym (entry-outside at mem (omega arith))
+pub outside : (part : List ℕ) (at : ℕ) → length part ≤ at → 0xFFFFFFFFFFFFFFFF ≡ entryIn part at
+outside part at h = sym (entry-outside at part (omega arith))
+
+-- ---- entry: low's, which ends below 4 GiB; in the hole; high's
+module _ (low high : List ℕ) (at : ℕ) where
+  pub in-low : (r : ℕ) → at % 8 ≡ 0 → Whole (both low high) → at < length low → r ≡ wordAt low at → r ≡ entryAt (both low high) at
+  in-low r h w l e = inside low at r h (w .low) l e ∙ rw (lt-ltb at highBase (omega (arith, w .below)))
+
+  pub in-hole : length low ≤ at → at < highBase → 0xFFFFFFFFFFFFFFFF ≡ entryAt (both low high) at
+  in-hole l h = sym (entry-hole at (both low high) h (omega arith))
+
+  pub in-high : highBase ≤ at → (r : ℕ) → r ≡ entryIn high (at - highBase) → r ≡ entryAt (both low high) at
+  in-high h r e = e ∙ rw (le-ltb at highBase h)
 
 -- ---- is_reserved_page
 pub reserved-page-test : (level t r : ℕ) → r ≡ maskOf (rangesOf (rows 52 true) level (ltb level 4)) → not (eqb (bitAnd t r) 0) ≡ isReservedPage level t

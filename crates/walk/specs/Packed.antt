@@ -3,12 +3,11 @@ use Prim.Native.Nat.{ℕ, _+_, _-_, _*_, _/_, _%_, _^_, _≤_, _<_}
 use mathlib.Core.Path.{_≡_}
 use mathlib.Core.Bool.{Bool, true, false, cond, _&&_, not}
 use mathlib.Core.List.{List, [], _∷_}
-use lib.ListN.{length}
 use lib.Dec.{leb, ltb, eqb}
 use lib.Bits.{bitAnd, bitXor}
 use Rattle.rules.specs.Bits.{isOn, part, one}
 use Rattle.rules.specs.Image.{nxe}
-use Rattle.rules.specs.Memory.{Memory, entryAt, added}
+use Rattle.rules.specs.Memory.{Memory, entryIn, addedIn, entryAt, added, Whole}
 use Rattle.rules.specs.Formats.{rows, rangesOf, anyIn}
 use Rattle.rules.specs.Entries.{says}
 use Rattle.rules.specs.Walk.{Leaf, End, reached, stuck, Reach, endAt, step, reach, judged, accessed, dirtied, marked, reachIn, Walked, walk}
@@ -22,13 +21,13 @@ use Rattle.rules.specs.declared.Found.the-variants.{Page, Fault}
 use Rattle.formats.specs.Ranges.{maskOf}
 use Rattle.numbers.specs.Needs.{neededOf, clearOf, ForEach}
 
--- what `walk` asks of its caller: a width, a table root below 2^52, and memory in whole words
+-- what `walk` asks of its caller: a width, a table root below 2^52, and memory that is whole
 pub record Ready (c : Control) (mem : Memory) : Type 0 where
   pub wide : 36 ≤ c .width
   pub narrow : c .width ≤ 52
   pub low : c .root < 2 ^ 52
   pub aligned : c .root % 8 ≡ 0
-  pub whole : length mem % 8 ≡ 0
+  pub whole : Whole mem
 
 -- ---- what goes down
 -- an entry with P, RW, US, A and D turned over: then a bit that is set says that something is lacking, as XD does
@@ -132,8 +131,21 @@ abbrev pub bitsOf : Bool → ℕ
 bitsOf true = 96
 bitsOf false = 32
 
+-- an entry is marked so after it was read: of one part, and of memory
+abbrev pub markedIn : Bool → ℕ → List ℕ → List ℕ
+markedIn true at part = addedIn 5 at (addedIn 6 at part)
+markedIn false at part = addedIn 5 at part
+
+pub record MarksIn (part part′ : List ℕ) (at bits e : ℕ) : Type 0 where
+  pub entry : e ≡ entryIn part at
+  pub marked : (dirty : Bool) → bits ≡ bitsOf dirty → part′ ≡ markedIn dirty at part
+
 abbrev pub markedAt : Bool → ℕ → Memory → Memory
 markedAt dirty at mem = added 5 at (dirtied dirty at mem)
+
+pub record Marks (mem mem′ : Memory) (at bits e : ℕ) : Type 0 where
+  pub entry : e ≡ entryAt mem at
+  pub marked : (dirty : Bool) → bits ≡ bitsOf dirty → mem′ ≡ markedAt dirty at mem
 
 -- a walk that ended at a page is made again, marking; memory may by then have marks that the entries it read had not, and leads the same way
 abbrev pub LeadsAlike : (ℕ → ℕ) → Memory → Type 0

@@ -2,12 +2,12 @@
 // table and only reads. Then whether this access may use it; and where it may and a mark is lacking, the same steps again, adding it.
 // Inside the recursion everything is a number (specs/Packed says what each stands for), since there a struct or an enum would go through memory.
 ghost use mathlib.Core.Path.{_≡_};
-ghost use mathlib.Core.Bool.{Bool, not};
+ghost use mathlib.Core.Bool.{not};
 ghost use Prim.Native.Nat.{_+_, _*_, _/_, _%_, _^_, _≤_, _<_};
 ghost use lib.ListN.{length};
 ghost use Rattle.rules.specs.Bits.{isOn, part};
-ghost use Rattle.rules.specs.Memory.{entryAt};
-ghost use Rattle.walk.specs.Packed.{Ready, bitsOf, markedAt, isReservedPage, rightsOf, accessedIn, packPage, Stops, Ended, Down, MarkedDown, barsOf, Settled, levelIn, packFault, unpackOf, Walks};
+ghost use Rattle.rules.specs.Memory.{both, entryIn, entryAt, Whole};
+ghost use Rattle.walk.specs.Packed.{Ready, MarksIn, Marks, slid, isReservedPage, rightsOf, accessedIn, packPage, Stops, Ended, Down, MarkedDown, barsOf, Settled, levelIn, packFault, unpackOf, Walks};
 ghost use Rattle.rules.specs.declared.Cause.the-variants.{Protection};
 ghost use Rattle.numbers.specs.Needs.{Known};
 use rules::Cause;
@@ -18,30 +18,61 @@ use rules::Rights;
 // What an entry outside memory reads as.
 const OUTSIDE: u64 = 0xFFFF_FFFF_FFFF_FFFF;
 
+// The physical address of high's first byte.
+const HIGH_BASE: usize = 0x1_0000_0000;
+
 // P, RW, US, A and D: an entry is looked at with these turned over. Then each bit that is set, as XD always did, takes a right or a mark away, and what is
 // lacking after several entries is their `or`.
 const TURNED: u64 = 0x67;
 
-// The entry at a place.
-fn entry(mem: &[u8], at: usize) -> u64
-    requires { ⌜ (at % 8 ≡ 0) × (length (now mem) % 8 ≡ 0) ⌝ }
-    ensures { λ r. ⌜ r ≡ entryAt (now (mem .entry)) at ⌝ }
+// The entry at a place of one part of memory.
+fn entry_in(part: &[u8], at: usize) -> u64
+    requires { ⌜ (at % 8 ≡ 0) × (length (now part) % 8 ≡ 0) ⌝ }
+    ensures { λ r. ⌜ r ≡ entryIn (now (part .entry)) at ⌝ }
 {
-    if at < mem.len() {
-        words::read_word(mem, at)
+    if at < part.len() {
+        words::read_word(part, at)
     } else {
         OUTSIDE
     }
 }
 
-// Accessed (32) is added to the entry at a place, or accessed and dirty (96).
-fn mark(mem: &mut [u8], at: usize, bits: u8)
-    ensures { λ _. ⌜ ((dirty : Bool) → bits ≡ bitsOf dirty → now (mem .exit) ≡ markedAt dirty at (now (mem .entry))) ⌝ }
+// The entry at a physical address. Low is asked first, by its length alone: most tables stand there.
+fn entry(low: &[u8], high: &[u8], at: usize) -> u64
+    requires { ⌜ (at % 8 ≡ 0) × Whole (both (now low) (now high)) ⌝ }
+    ensures { λ r. ⌜ r ≡ entryAt (both (now (low .entry)) (now (high .entry))) at ⌝ }
 {
-    if mem.len() <= at {
-        return;
+    if at < low.len() {
+        return words::read_word(low, at);
     }
-    mem[at] = mem[at] | bits;
+    if at < HIGH_BASE {
+        return OUTSIDE;
+    }
+    entry_in(high, at - HIGH_BASE)
+}
+
+// The entry at a place of one part, to which accessed (32) is then added, or accessed and dirty (96).
+fn mark_in(part: &mut [u8], at: usize, bits: u8) -> u64
+    requires { ⌜ (at % 8 ≡ 0) × (length (now part) % 8 ≡ 0) ⌝ }
+    ensures { λ r. ⌜ MarksIn (now (part .entry)) (now (part .exit)) at bits r ⌝ }
+{
+    let e = entry_in(part, at);
+    if part.len() <= at {
+        return e;
+    }
+    part[at] = part[at] | bits;
+    e
+}
+
+// The same at a physical address.
+fn mark(low: &mut [u8], high: &mut [u8], at: usize, bits: u8) -> u64
+    requires { ⌜ (at % 8 ≡ 0) × Whole (both (now low) (now high)) ⌝ }
+    ensures { λ r. ⌜ Marks (both (now (low .entry)) (now (high .entry))) (both (now (low .exit)) (now (high .exit))) at bits r ⌝ }
+{
+    if HIGH_BASE <= at {
+        return mark_in(high, at - HIGH_BASE, bits);
+    }
+    mark_in(low, at, bits)
 }
 
 // A page's entry, or one of level 4 with the page bit, has a bit of its row set that is reserved at every width and whether NXE is on or off.
@@ -94,34 +125,36 @@ fn place(base: u64, x: u64) -> usize
 }
 
 // Which page is reached from a level on: the table at base, the bits that bar the way to a next one, what was lacking so far.
-fn down(mem: &[u8], base: u64, x: u64, level: u64, bars: u64, seen: u64) -> u64
-    requires { ⌜ (0 < level) × ((level ≤ 4) × ((base < 2 ^ 52) × ((base % 8 ≡ 0) × ((length (now mem) % 8 ≡ 0) × (0x80 ≤ bars))))) ⌝ }
-    ensures { λ r. ⌜ Down (now (mem .entry)) x level base seen bars r ⌝ }
+fn down(low: &[u8], high: &[u8], base: u64, x: u64, level: u64, bars: u64, seen: u64) -> u64
+    requires { ⌜ (0 < level) × ((level ≤ 4) × ((base < 2 ^ 52) × ((base % 8 ≡ 0) × (Whole (both (now low) (now high)) × (0x80 ≤ bars))))) ⌝ }
+    ensures { λ r. ⌜ Down (both (now (low .entry)) (now (high .entry))) x level base seen bars r ⌝ }
 {
-    let t = entry(mem, place(base, x)) ^ TURNED;
+    let t = entry(low, high, place(base, x)) ^ TURNED;
     let s = seen | t;
     if level == 1 {
         return end(t, s, level, bars);
     }
     if t & bars == 0 {
-        return down(mem, next(t), x << 9, level - 1, bars, s);
+        return down(low, high, next(t), x << 9, level - 1, bars, s);
     }
     end(t, s, level, bars)
 }
 
-// The same entries once more, down to the page's level: each is marked as accessed, and the page's as is given.
-fn mark_down(mem: &mut [u8], base: u64, x: u64, level: u64, last: u64, bits: u8)
-    requires { ⌜ (base < 2 ^ 52) × ((base % 8 ≡ 0) × (length (now mem) % 8 ≡ 0)) ⌝ }
-    ensures { λ _. ⌜ MarkedDown (now (mem .entry)) (now (mem .exit)) x level base last bits ⌝ }
+// The same entries once more, down to the page's level: each is marked as accessed, and the page's as is given. This is a loop: a call for each level would hand on both
+// slices through memory.
+fn mark_down(low: &mut [u8], high: &mut [u8], root: u64, a: u64, last: u64, bits: u8)
+    requires { ⌜ (root < 2 ^ 52) × ((root % 8 ≡ 0) × Whole (both (now low) (now high))) ⌝ }
+    ensures { λ _. ⌜ MarkedDown (both (now (low .entry)) (now (high .entry))) (both (now (low .exit)) (now (high .exit))) (slid 4 a) 4 root last bits ⌝ }
 {
-    let at = place(base, x);
-    if level <= last {
-        mark(mem, at, bits);
-        return;
+    let mut base = root;
+    let mut x = a << 16;
+    let mut level = 4;
+    while last < level {
+        base = next(mark(low, high, place(base, x), 32));
+        x = x << 9;
+        level -= 1;
     }
-    let e = entry(mem, at);
-    mark(mem, at, 32);
-    mark_down(mem, next(e), x << 9, level - 1, last, bits);
+    mark(low, high, place(base, x), bits);
 }
 
 // The bits of a turned entry that bar the way to a next table: not present, a page, and the row of a table, which at levels 2 and 3 is the same and at level 4 has
@@ -141,9 +174,9 @@ fn protection(n: u64) -> u64
 }
 
 // Whether an access may use the page that was reached, by what it needs of it and what must be clear, which the page then lacks; if so, the page lacks no mark afterwards.
-fn settle(mem: &mut [u8], root: u64, a: u64, n: u64, need: u64, clear: u64) -> u64
-    requires { ⌜ (root < 2 ^ 52) × ((root % 8 ≡ 0) × (length (now mem) % 8 ≡ 0)) ⌝ }
-    ensures { λ r. ⌜ Settled (now (mem .entry)) (now (mem .exit)) root a n need clear r ⌝ }
+fn settle(low: &mut [u8], high: &mut [u8], root: u64, a: u64, n: u64, need: u64, clear: u64) -> u64
+    requires { ⌜ (root < 2 ^ 52) × ((root % 8 ≡ 0) × Whole (both (now low) (now high))) ⌝ }
+    ensures { λ r. ⌜ Settled (both (now (low .entry)) (now (high .entry))) (both (now (low .exit)) (now (high .exit))) root a n need clear r ⌝ }
 {
     if (n ^ clear) & clear != 0 {
         return protection(n);
@@ -156,7 +189,7 @@ fn settle(mem: &mut [u8], root: u64, a: u64, n: u64, need: u64, clear: u64) -> u
         return protection(n);
     }
     let bits = (32 + need / 8 % 2 * 64) as u8;
-    mark_down(mem, root, a << 16, 4, n / 32 % 8, bits);
+    mark_down(low, high, root, a, n / 32 % 8, bits);
     n - lacks
 }
 
@@ -203,14 +236,14 @@ fn unpack(n: u64) -> Found
 }
 
 // The walk of an address for an access: what it finds, with the accessed and dirty bits added to memory. What the access asks of a page is worked out once there is one.
-pub fn walk(mem: &mut [u8], c: Control, access: u64, a: u64) -> Found
-    requires { ⌜ Ready c (now mem) × Known (c .flags) access ⌝ }
-    ensures { λ r. ⌜ Walks c access a (now (mem .entry)) (now (mem .exit)) r ⌝ }
+pub fn walk(low: &mut [u8], high: &mut [u8], c: Control, access: u64, a: u64) -> Found
+    requires { ⌜ Ready c (both (now low) (now high)) × Known (c .flags) access ⌝ }
+    ensures { λ r. ⌜ Walks c access a (both (now (low .entry)) (now (high .entry))) (both (now (low .exit)) (now (high .exit))) r ⌝ }
 {
-    let n = down(mem, c.root, a << 16, 4, bars_of(c), 0);
+    let n = down(low, high, c.root, a << 16, 4, bars_of(c), 0);
     if n < 2048 {
         return unpack(n);
     }
     let need = numbers::needed(c.flags, access);
-    unpack(settle(mem, c.root, a, n, need, access / 8))
+    unpack(settle(low, high, c.root, a, n, need, access / 8))
 }

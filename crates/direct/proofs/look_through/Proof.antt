@@ -37,6 +37,9 @@ same-length-4 c = search needs
 same-length-5 : tie.Need-same-length-5
 same-length-5 c = search needs
 
+same-length-6 : tie.Need-same-length-6
+same-length-6 c = search needs
+
 returns-2 : tie.Need-returns-2
 returns-2 c = search walks-on
 
@@ -55,4 +58,5 @@ look-through-spec =
     same-length-3
     same-length-4
     same-length-5
+    same-length-6
     returns-2)

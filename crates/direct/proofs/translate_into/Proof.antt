@@ -4,6 +4,7 @@ use mathlib.Core.Bool.{true, false}
 use native.Mathlib.Omega.{arith}
 use lib.ListN.{length}
 use Rattle.rules.specs.Image.{decode, pg}
+use Rattle.rules.specs.Memory.{Memory, both}
 use Rattle.rules.specs.Refusals.{translate, refusal}
 use Rattle.rules.specs.Calls.{accessOf}
 use Rattle.refusals.specs.Asked.{Asked}
@@ -16,19 +17,22 @@ use Rattle.direct.proofs.translate_into.Statement.{statement}
 use Rattle.direct.proofs.translate_into.Tie as tie
 
 abbrev start : tie.After-translate-refusal → tie.Start
-start t = t .before .before .before .before .before .before .before .before .before .before .before
+start t = t .before .before .before .before .before .before .before .before .before .before .before .before .before
 
 abbrev looked : tie.After-serve → tie.After-first
 looked s = s .before .before .before .before .before .before
 
-asked : (t : tie.After-translate-refusal) → Asked (start t .args .image .now) (start t .args .mem .now) (t .before .before .before .before .before .is-unfit .result) (t .before .before .before .beyond-pages .result) (t .before .is-paged .result)
-asked t = record { image = t .before .before .before .before .before .is-unfit .ensures; memory = t .before .before .before .beyond-pages .ensures; paging = t .before .is-paged .ensures }
+abbrev memory : tie.Start → Memory
+memory s = both (s .args .low .now) (s .args .high .now)
 
-number : (t : tie.After-translate-refusal) → t .translate-refusal .result ≡ refusal (start t .args .image .now) (start t .args .mem .now) (translate (start t .args .kind) (start t .args .a) (start t .args .ac))
-number t = t .translate-refusal .ensures (start t .args .image .now) (start t .args .mem .now) (start t .args .ac) (asked t)
+asked : (t : tie.After-translate-refusal) → Asked (start t .args .image .now) (memory (start t)) (t .before .before .before .before .before .before .is-unfit .result) (t .before .before .before .no-lengths .result) (t .before .is-paged .result)
+asked t = record { image = t .before .before .before .before .before .before .is-unfit .ensures; memory = t .before .before .before .no-lengths .ensures; paging = t .before .is-paged .ensures }
 
-taken : (e : tie.Else2) → Accepts (start (e .before) .args .image .now) (start (e .before) .args .mem .now) (start (e .before) .args .kind) (start (e .before) .args .a) (start (e .before) .args .ac)
-taken e = accepts _ _ _ _ _ (e .before .translate-refusal .result) (number (e .before)) (e .if2 .left) (λ j. omega (arith, e .before .before .before .before .before .before .before .before .before .before .before .slice-known .given j))
+number : (t : tie.After-translate-refusal) → t .translate-refusal .result ≡ refusal (start t .args .image .now) (memory (start t)) (translate (start t .args .kind) (start t .args .a) (start t .args .ac))
+number t = t .translate-refusal .ensures (start t .args .image .now) (memory (start t)) (start t .args .ac) (asked t)
+
+taken : (e : tie.Else2) → Accepts (start (e .before) .args .image .now) (memory (start (e .before))) (start (e .before) .args .kind) (start (e .before) .args .a) (start (e .before) .args .ac)
+taken e = accepts _ _ _ _ _ (e .before .translate-refusal .result) (number (e .before)) (e .if2 .left) (λ j. omega (arith, e .before .before .before .before .before .before .before .before .before .before .before .before .before .slice-known .given j))
 
 off : (p : tie.Then3) → pg (decode (start (p .before .before) .args .image .now) .flags) ≡ false
 off p = paging-off _ _ _ _ _ (taken (p .before)) _ _ _ (asked (p .before .before)) (p .if3 .taken)
@@ -37,7 +41,7 @@ on : (p : tie.Else3) → pg (decode (start (p .before .before) .args .image .now
 on p = paging-on _ _ _ _ _ (taken (p .before)) _ _ _ (asked (p .before .before)) (p .if3 .left)
 
 right : (e : tie.Else2) → length (start (e .before) .args .answer .now) ≡ 32
-right e = e .before .before .before .before .before .before .before .before .if1 .left
+right e = e .before .before .before .before .before .before .before .before .before .if1 .left
 
 abbrev paged : tie.After-first → tie.Else3
 paged f = f .before .before .before .before
@@ -51,8 +55,8 @@ returns c = search turned-away
 is-unfit-requires : tie.Need-is-unfit-requires
 is-unfit-requires c κs = search needs
 
-beyond-pages-requires : tie.Need-beyond-pages-requires
-beyond-pages-requires c κs = search needs
+no-lengths-requires : tie.Need-no-lengths-requires
+no-lengths-requires c κs = search needs
 
 is-paged-requires : tie.Need-is-paged-requires
 is-paged-requires c κs = search needs
@@ -72,6 +76,9 @@ same-length-2 c = search needs
 same-length-3 : tie.Need-same-length-3
 same-length-3 c = search needs
 
+same-length-4 : tie.Need-same-length-4
+same-length-4 c = search needs
+
 returns-2 : tie.Need-returns-2
 returns-2 c =
     let h = number (c .before .before .before .before .before) in
@@ -80,14 +87,17 @@ returns-2 c =
 put-requires : tie.Need-put-requires
 put-requires c κs = search needs
 
-same-length-4 : tie.Need-same-length-4
-same-length-4 c = search needs
-
 same-length-5 : tie.Need-same-length-5
 same-length-5 c = search needs
 
 same-length-6 : tie.Need-same-length-6
 same-length-6 c = search needs
+
+same-length-7 : tie.Need-same-length-7
+same-length-7 c = search needs
+
+same-length-8 : tie.Need-same-length-8
+same-length-8 c = search needs
 
 returns-3 : tie.Need-returns-3
 returns-3 c =
@@ -110,50 +120,8 @@ serve-requires c κs =
     let f = c .before .before .before .before .before in
     (long _ _ _ _ _ (taken (paged f .before)), (search needs, search small-right))
 
-same-length-7 : tie.Need-same-length-7
-same-length-7 c = search needs
-
-same-length-8 : tie.Need-same-length-8
-same-length-8 c = search needs
-
 same-length-9 : tie.Need-same-length-9
 same-length-9 c = search needs
-
-returns-4 : tie.Need-returns-4
-returns-4 c =
-    let s = c .before .before .before in
-    let f = looked s in
-    through _ _ _ _ _ _ _ _ (right (paged f .before))
-    (writes-small _ _ _ _ _ (taken (paged f .before)) _ (named f) (on (paged f)) (f .first .result) (f .first .ensures) _ _ _ _ (s .serve .ensures) (c .if4 .taken) (search needs))
-
-look-through-requires : tie.Need-look-through-requires
-look-through-requires c κs =
-    let f = looked (c .before .before .before .before .before .before) in
-    lent _ _ _ _ _ (taken (paged f .before)) _ (named f) _ (search needs)
-
-enum-told : tie.Need-enum-told
-enum-told c = search needs
-
-look-middle-requires : tie.Need-look-middle-requires
-look-middle-requires c κs =
-    let f = c .before .before .before .before .before in
-    (lent _ _ _ _ _ (taken (paged f .before)) _ (named f) _ (search needs), search begins-middle)
-
-enum-told-2 : tie.Need-enum-told-2
-enum-told-2 c = search needs
-
-look-large-requires : tie.Need-look-large-requires
-look-large-requires c κs =
-    let f = c .before .before .before .before .before in
-    (lent _ _ _ _ _ (taken (paged f .before)) _ (named f) _ (search needs), search begins-large)
-
-enum-told-3 : tie.Need-enum-told-3
-enum-told-3 c = search needs
-
-missed-requires : tie.Need-missed-requires
-missed-requires c κs =
-    let f = c .before .before .before .before .before in
-    lent _ _ _ _ _ (taken (paged f .before)) _ (named f) _ (search needs)
 
 same-length-10 : tie.Need-same-length-10
 same-length-10 c = search needs
@@ -164,13 +132,41 @@ same-length-11 c = search needs
 same-length-12 : tie.Need-same-length-12
 same-length-12 c = search needs
 
-returns-5 : tie.Need-returns-5
-returns-5 c =
-    let w = c .before .before .before .before .before .before in
-    let s = w .before .before .before .before .before .before .before in
+returns-4 : tie.Need-returns-4
+returns-4 c =
+    let s = c .before .before .before in
     let f = looked s in
     through _ _ _ _ _ _ _ _ (right (paged f .before))
-    (writes-looked _ _ _ _ _ (taken (paged f .before)) _ (named f) (on (paged f)) _ _ _ _ (w .look-through .ensures))
+    (writes-small _ _ _ _ _ (taken (paged f .before)) _ (named f) (on (paged f)) (f .first .result) (f .first .ensures) _ _ _ _ (s .serve .ensures) (c .if4 .taken) (search needs))
+
+look-through-requires : tie.Need-look-through-requires
+look-through-requires c κs =
+    let f = looked (c .before .before .before .before .before .before .before) in
+    lent _ _ _ _ _ (taken (paged f .before)) _ (named f) _ (search needs)
+
+enum-told : tie.Need-enum-told
+enum-told c = search needs
+
+look-middle-requires : tie.Need-look-middle-requires
+look-middle-requires c κs =
+    let f = c .before .before .before .before .before .before in
+    (lent _ _ _ _ _ (taken (paged f .before)) _ (named f) _ (search needs), search begins-middle)
+
+enum-told-2 : tie.Need-enum-told-2
+enum-told-2 c = search needs
+
+look-large-requires : tie.Need-look-large-requires
+look-large-requires c κs =
+    let f = c .before .before .before .before .before .before in
+    (lent _ _ _ _ _ (taken (paged f .before)) _ (named f) _ (search needs), search begins-large)
+
+enum-told-3 : tie.Need-enum-told-3
+enum-told-3 c = search needs
+
+missed-requires : tie.Need-missed-requires
+missed-requires c κs =
+    let f = c .before .before .before .before .before .before in
+    lent _ _ _ _ _ (taken (paged f .before)) _ (named f) _ (search needs)
 
 same-length-13 : tie.Need-same-length-13
 same-length-13 c = search needs
@@ -181,15 +177,16 @@ same-length-14 c = search needs
 same-length-15 : tie.Need-same-length-15
 same-length-15 c = search needs
 
-returns-6 : tie.Need-returns-6
-returns-6 c =
-    let w = c .before .before .before .before .before .before in
-    let f = w .before .before .before .before .before .before in
-    through _ _ _ _ _ _ _ _ (right (paged f .before))
-    (writes-looked _ _ _ _ _ (taken (paged f .before)) _ (named f) (on (paged f)) _ _ _ _ (w .look-middle .ensures))
-
 same-length-16 : tie.Need-same-length-16
 same-length-16 c = search needs
+
+returns-5 : tie.Need-returns-5
+returns-5 c =
+    let w = c .before .before .before .before .before .before .before .before in
+    let s = w .before .before .before .before .before .before .before .before in
+    let f = looked s in
+    through _ _ _ _ _ _ _ _ (right (paged f .before))
+    (writes-looked _ _ _ _ _ (taken (paged f .before)) _ (named f) (on (paged f)) _ _ _ _ (w .look-through .ensures))
 
 same-length-17 : tie.Need-same-length-17
 same-length-17 c = search needs
@@ -197,26 +194,54 @@ same-length-17 c = search needs
 same-length-18 : tie.Need-same-length-18
 same-length-18 c = search needs
 
-returns-7 : tie.Need-returns-7
-returns-7 c =
-    let w = c .before .before .before .before .before .before in
-    let f = w .before .before .before .before .before .before in
-    through _ _ _ _ _ _ _ _ (right (paged f .before))
-    (writes-looked _ _ _ _ _ (taken (paged f .before)) _ (named f) (on (paged f)) _ _ _ _ (w .look-large .ensures))
-
 same-length-19 : tie.Need-same-length-19
 same-length-19 c = search needs
 
 same-length-20 : tie.Need-same-length-20
 same-length-20 c = search needs
 
+returns-6 : tie.Need-returns-6
+returns-6 c =
+    let w = c .before .before .before .before .before .before .before .before in
+    let f = w .before .before .before .before .before .before .before in
+    through _ _ _ _ _ _ _ _ (right (paged f .before))
+    (writes-looked _ _ _ _ _ (taken (paged f .before)) _ (named f) (on (paged f)) _ _ _ _ (w .look-middle .ensures))
+
 same-length-21 : tie.Need-same-length-21
 same-length-21 c = search needs
 
+same-length-22 : tie.Need-same-length-22
+same-length-22 c = search needs
+
+same-length-23 : tie.Need-same-length-23
+same-length-23 c = search needs
+
+same-length-24 : tie.Need-same-length-24
+same-length-24 c = search needs
+
+returns-7 : tie.Need-returns-7
+returns-7 c =
+    let w = c .before .before .before .before .before .before .before .before in
+    let f = w .before .before .before .before .before .before .before in
+    through _ _ _ _ _ _ _ _ (right (paged f .before))
+    (writes-looked _ _ _ _ _ (taken (paged f .before)) _ (named f) (on (paged f)) _ _ _ _ (w .look-large .ensures))
+
+same-length-25 : tie.Need-same-length-25
+same-length-25 c = search needs
+
+same-length-26 : tie.Need-same-length-26
+same-length-26 c = search needs
+
+same-length-27 : tie.Need-same-length-27
+same-length-27 c = search needs
+
+same-length-28 : tie.Need-same-length-28
+same-length-28 c = search needs
+
 returns-8 : tie.Need-returns-8
 returns-8 c =
-    let w = c .before .before .before .before .before .before in
-    let f = w .before .before .before .before .before .before in
+    let w = c .before .before .before .before .before .before .before .before in
+    let f = w .before .before .before .before .before .before .before in
     through _ _ _ _ _ _ _ _ (right (paged f .before))
     (writes-walk _ _ _ _ _ (taken (paged f .before)) _ (named f) (on (paged f)) (f .first .result) (f .first .ensures) (search needs) _ _ _ _ (w .missed .ensures))
 
@@ -226,26 +251,29 @@ translate-into-spec =
     (tie.spec
     returns
     is-unfit-requires
-    beyond-pages-requires
+    no-lengths-requires
     is-paged-requires
     translate-refusal-requires
     write-record-requires
     same-length
     same-length-2
     same-length-3
+    same-length-4
     returns-2
     put-requires
-    same-length-4
     same-length-5
     same-length-6
+    same-length-7
+    same-length-8
     returns-3
     access-of-requires
     first-requires
     enum-known-at
     serve-requires
-    same-length-7
-    same-length-8
     same-length-9
+    same-length-10
+    same-length-11
+    same-length-12
     returns-4
     look-through-requires
     enum-told
@@ -254,19 +282,23 @@ translate-into-spec =
     look-large-requires
     enum-told-3
     missed-requires
-    same-length-10
-    same-length-11
-    same-length-12
-    returns-5
     same-length-13
     same-length-14
     same-length-15
-    returns-6
     same-length-16
+    returns-5
     same-length-17
     same-length-18
-    returns-7
     same-length-19
     same-length-20
+    returns-6
     same-length-21
+    same-length-22
+    same-length-23
+    same-length-24
+    returns-7
+    same-length-25
+    same-length-26
+    same-length-27
+    same-length-28
     returns-8)

@@ -52,6 +52,9 @@ write-record-requires-5 c κs = search needs
 enum-known-order-6 : tie.Need-enum-known-order-6
 enum-known-order-6 c = search needs
 
+slice-aggregate-translate-into : tie.Need-slice-aggregate-translate-into
+slice-aggregate-translate-into c = search needs
+
 translate-into-requires : tie.Need-translate-into-requires
 translate-into-requires c κs = search needs
 
@@ -159,6 +162,7 @@ perform-spec =
     invpcid-requires
     write-record-requires-5
     enum-known-order-6
+    slice-aggregate-translate-into
     translate-into-requires
     enum-known-order-7
     store-requires

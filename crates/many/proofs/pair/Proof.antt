@@ -3,6 +3,7 @@ use mathlib.Core.Path.{_≡_}
 use mathlib.Core.Bool.{true, false}
 use native.Mathlib.Omega.{arith}
 use Rattle.rules.specs.Image.{decode, pg}
+use Rattle.rules.specs.Memory.{Memory, both}
 use Rattle.rules.specs.Refusals.{translate, refusal}
 use Rattle.rules.specs.Calls.{accessOf}
 use Rattle.refusals.specs.Asked.{Asked}
@@ -15,19 +16,22 @@ use Rattle.many.proofs.pair.Statement.{statement}
 use Rattle.many.proofs.pair.Tie as tie
 
 abbrev start : tie.After-translate-refusal → tie.Start
-start t = t .before .before .before .before
+start t = t .before .before .before .before .before
 
 abbrev looked : tie.After-serve → tie.After-first
 looked s = s .before .before .before .before .before .before
 
-asked : (t : tie.After-translate-refusal) → Asked (start t .args .image .now) (start t .args .mem .now) (start t .args .unfit) (start t .args .beyond) (start t .args .paged)
+abbrev memory : tie.Start → Memory
+memory s = both (s .args .low .now) (s .args .high .now)
+
+asked : (t : tie.After-translate-refusal) → Asked (start t .args .image .now) (memory (start t)) (start t .args .unfit) (start t .args .misfit) (start t .args .paged)
 asked t = start t .pre .1
 
-number : (t : tie.After-translate-refusal) → t .translate-refusal .result ≡ refusal (start t .args .image .now) (start t .args .mem .now) (translate (start t .args .kind) (start t .args .a) 0)
-number t = t .translate-refusal .ensures (start t .args .image .now) (start t .args .mem .now) 0 (asked t)
+number : (t : tie.After-translate-refusal) → t .translate-refusal .result ≡ refusal (start t .args .image .now) (memory (start t)) (translate (start t .args .kind) (start t .args .a) 0)
+number t = t .translate-refusal .ensures (start t .args .image .now) (memory (start t)) 0 (asked t)
 
-taken : (e : tie.Else1) → Accepts (start (e .before) .args .image .now) (start (e .before) .args .mem .now) (start (e .before) .args .kind) (start (e .before) .args .a) 0
-taken e = accepts _ _ _ _ _ (e .before .translate-refusal .result) (number (e .before)) (e .if1 .left) (λ j. omega (arith, e .before .before .before .before .slice-known .given j))
+taken : (e : tie.Else1) → Accepts (start (e .before) .args .image .now) (memory (start (e .before))) (start (e .before) .args .kind) (start (e .before) .args .a) 0
+taken e = accepts _ _ _ _ _ (e .before .translate-refusal .result) (number (e .before)) (e .if1 .left) (λ j. omega (arith, e .before .before .before .before .before .slice-known .given j))
 
 off : (p : tie.Then2) → pg (decode (start (p .before .before) .args .image .now) .flags) ≡ false
 off p = paging-off _ _ _ _ _ (taken (p .before)) _ _ _ (asked (p .before .before)) (p .if2 .taken)
@@ -94,7 +98,7 @@ returns-3 c =
 
 look-through-requires : tie.Need-look-through-requires
 look-through-requires c κs =
-    let f = looked (c .before .before .before .before .before .before) in
+    let f = looked (c .before .before .before .before .before .before .before) in
     lent _ _ _ _ _ (taken (paged f .before)) _ (named f) _ (search needs)
 
 enum-told : tie.Need-enum-told
@@ -102,7 +106,7 @@ enum-told c = search needs
 
 look-middle-requires : tie.Need-look-middle-requires
 look-middle-requires c κs =
-    let f = c .before .before .before .before .before in
+    let f = c .before .before .before .before .before .before in
     (lent _ _ _ _ _ (taken (paged f .before)) _ (named f) _ (search needs), search begins-middle)
 
 enum-told-2 : tie.Need-enum-told-2
@@ -110,7 +114,7 @@ enum-told-2 c = search needs
 
 look-large-requires : tie.Need-look-large-requires
 look-large-requires c κs =
-    let f = c .before .before .before .before .before in
+    let f = c .before .before .before .before .before .before in
     (lent _ _ _ _ _ (taken (paged f .before)) _ (named f) _ (search needs), search begins-large)
 
 enum-told-3 : tie.Need-enum-told-3
@@ -118,7 +122,7 @@ enum-told-3 c = search needs
 
 missed-requires : tie.Need-missed-requires
 missed-requires c κs =
-    let f = c .before .before .before .before .before in
+    let f = c .before .before .before .before .before .before in
     lent _ _ _ _ _ (taken (paged f .before)) _ (named f) _ (search needs)
 
 same-length-5 : tie.Need-same-length-5
@@ -130,15 +134,15 @@ same-length-6 c = search needs
 same-length-7 : tie.Need-same-length-7
 same-length-7 c = search needs
 
-returns-4 : tie.Need-returns-4
-returns-4 c =
-    let w = c .before .before .before .before .before .before in
-    let s = w .before .before .before .before .before .before .before in
-    let f = looked s in
-    writes-looked _ _ _ _ _ (taken (paged f .before)) _ (named f) (on (paged f)) _ _ _ _ (w .look-through .ensures)
-
 same-length-8 : tie.Need-same-length-8
 same-length-8 c = search needs
+
+returns-4 : tie.Need-returns-4
+returns-4 c =
+    let w = c .before .before .before .before .before .before .before .before in
+    let s = w .before .before .before .before .before .before .before .before in
+    let f = looked s in
+    writes-looked _ _ _ _ _ (taken (paged f .before)) _ (named f) (on (paged f)) _ _ _ _ (w .look-through .ensures)
 
 same-length-9 : tie.Need-same-length-9
 same-length-9 c = search needs
@@ -146,26 +150,20 @@ same-length-9 c = search needs
 same-length-10 : tie.Need-same-length-10
 same-length-10 c = search needs
 
-returns-5 : tie.Need-returns-5
-returns-5 c =
-    let w = c .before .before .before .before .before .before in
-    let f = w .before .before .before .before .before .before in
-    writes-looked _ _ _ _ _ (taken (paged f .before)) _ (named f) (on (paged f)) _ _ _ _ (w .look-middle .ensures)
-
 same-length-11 : tie.Need-same-length-11
 same-length-11 c = search needs
 
 same-length-12 : tie.Need-same-length-12
 same-length-12 c = search needs
 
+returns-5 : tie.Need-returns-5
+returns-5 c =
+    let w = c .before .before .before .before .before .before .before .before in
+    let f = w .before .before .before .before .before .before .before in
+    writes-looked _ _ _ _ _ (taken (paged f .before)) _ (named f) (on (paged f)) _ _ _ _ (w .look-middle .ensures)
+
 same-length-13 : tie.Need-same-length-13
 same-length-13 c = search needs
-
-returns-6 : tie.Need-returns-6
-returns-6 c =
-    let w = c .before .before .before .before .before .before in
-    let f = w .before .before .before .before .before .before in
-    writes-looked _ _ _ _ _ (taken (paged f .before)) _ (named f) (on (paged f)) _ _ _ _ (w .look-large .ensures)
 
 same-length-14 : tie.Need-same-length-14
 same-length-14 c = search needs
@@ -176,10 +174,28 @@ same-length-15 c = search needs
 same-length-16 : tie.Need-same-length-16
 same-length-16 c = search needs
 
+returns-6 : tie.Need-returns-6
+returns-6 c =
+    let w = c .before .before .before .before .before .before .before .before in
+    let f = w .before .before .before .before .before .before .before in
+    writes-looked _ _ _ _ _ (taken (paged f .before)) _ (named f) (on (paged f)) _ _ _ _ (w .look-large .ensures)
+
+same-length-17 : tie.Need-same-length-17
+same-length-17 c = search needs
+
+same-length-18 : tie.Need-same-length-18
+same-length-18 c = search needs
+
+same-length-19 : tie.Need-same-length-19
+same-length-19 c = search needs
+
+same-length-20 : tie.Need-same-length-20
+same-length-20 c = search needs
+
 returns-7 : tie.Need-returns-7
 returns-7 c =
-    let w = c .before .before .before .before .before .before in
-    let f = w .before .before .before .before .before .before in
+    let w = c .before .before .before .before .before .before .before .before in
+    let f = w .before .before .before .before .before .before .before in
     writes-walk _ _ _ _ _ (taken (paged f .before)) _ (named f) (on (paged f)) (f .first .result) (f .first .ensures) (search needs) _ _ _ _ (w .missed .ensures)
 
 pub pair-spec : {M : Type 1} → statement M
@@ -210,16 +226,20 @@ pair-spec =
     same-length-5
     same-length-6
     same-length-7
-    returns-4
     same-length-8
+    returns-4
     same-length-9
     same-length-10
-    returns-5
     same-length-11
     same-length-12
+    returns-5
     same-length-13
-    returns-6
     same-length-14
     same-length-15
     same-length-16
+    returns-6
+    same-length-17
+    same-length-18
+    same-length-19
+    same-length-20
     returns-7)

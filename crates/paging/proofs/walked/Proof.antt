@@ -19,6 +19,9 @@ same-length c = search needs
 same-length-2 : tie.Need-same-length-2
 same-length-2 c = search needs
 
+same-length-3 : tie.Need-same-length-3
+same-length-3 c = search needs
+
 returns : tie.Need-returns
 returns c = search walks-it
 
@@ -31,4 +34,5 @@ walked-spec =
     finish-requires
     same-length
     same-length-2
+    same-length-3
     returns)

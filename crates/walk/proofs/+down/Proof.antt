@@ -15,14 +15,14 @@ use Rattle.walk.proofs.+down.{statement}
 use Rattle.walk.proofs.+down.Tie.{close}
 
 -- the level
-abbrev μ-down : Measures 1 down-kinds.ps ℕ
-μ-down κs a = a .1 .1 .1 .0
+abbrev μ-down : Measures 2 down-kinds.ps ℕ
+μ-down κs a = a .1 .1 .1 .1 .0
 
-abbrev down-at : ℕ → In 1 down-kinds.ps
-down-at t = and 1 down-kinds.ps (is 1 down-kinds.ps μ-down t) down.Pre
+abbrev down-at : ℕ → In 2 down-kinds.ps
+down-at t = and 2 down-kinds.ps (is 2 down-kinds.ps μ-down t) down.Pre
 
-abbrev down-below : ℕ → In 1 down-kinds.ps
-down-below t = and 1 down-kinds.ps (falls 1 down-kinds.ps _<_ μ-down t) down.Pre
+abbrev down-below : ℕ → In 2 down-kinds.ps
+down-below t = and 2 down-kinds.ps (falls 2 down-kinds.ps _<_ μ-down t) down.Pre
 
 module _ (t : ℕ) where
   -- what each callee asks and gives

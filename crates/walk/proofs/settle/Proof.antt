@@ -38,6 +38,9 @@ sub-result c = search (and-le-l, needs)
 same-length : tie.Need-same-length
 same-length c = search needs
 
+same-length-2 : tie.Need-same-length-2
+same-length-2 c = search needs
+
 returns-4 : tie.Need-returns-4
 returns-4 c = search way-marked
 
@@ -56,4 +59,5 @@ settle-spec =
     mark-down-requires
     sub-result
     same-length
+    same-length-2
     returns-4)

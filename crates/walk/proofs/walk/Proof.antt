@@ -16,6 +16,9 @@ unpack-requires c κs = search stuck-fits
 same-length : tie.Need-same-length
 same-length c = search needs
 
+same-length-2 : tie.Need-same-length-2
+same-length-2 c = search needs
+
 returns : tie.Need-returns
 returns c = search stuck-walked
 
@@ -28,8 +31,11 @@ settle-requires c κs = search needs
 unpack-requires-2 : tie.Need-unpack-requires-2
 unpack-requires-2 c κs = search page-fits
 
-same-length-2 : tie.Need-same-length-2
-same-length-2 c = search needs
+same-length-3 : tie.Need-same-length-3
+same-length-3 c = search needs
+
+same-length-4 : tie.Need-same-length-4
+same-length-4 c = search needs
 
 returns-2 : tie.Need-returns-2
 returns-2 c = search page-walked
@@ -42,9 +48,11 @@ walk-spec =
     down-requires
     unpack-requires
     same-length
+    same-length-2
     returns
     needed-requires
     settle-requires
     unpack-requires-2
-    same-length-2
+    same-length-3
+    same-length-4
     returns-2)

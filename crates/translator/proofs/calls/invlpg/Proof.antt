@@ -1,5 +1,5 @@
 -- Refused, or accepted: then the bytes are an image's (`i`), and the drop is the one that the rules name, or none.
-use mathlib.Core.List.{[]}
+use Rattle.rules.specs.Memory.{empty}
 use Rattle.rules.specs.Refusals.{invlpg}
 use native.Mathlib.Omega.{arith}
 use Rattle.translator.proofs.Calling.{refuses, call-long, call-image, invlpg-drops, invlpg-nothing}
@@ -26,7 +26,7 @@ drop-matches-requires : tie.Need-drop-matches-requires
 drop-matches-requires c κs =
     let s = c .before .before .before .before .before in
     let k = s .before .before .before in
-    let i = call-image (invlpg (k .before .args .a)) (k .before .args .image .now) [] (s .before .invlpg-refusal .result) tt (λ j. omega (arith, k .slice-known .given j)) (s .before .invlpg-refusal .ensures) (s .if1 .left) in
+    let i = call-image (invlpg (k .before .args .a)) (k .before .args .image .now) empty (s .before .invlpg-refusal .result) tt (λ j. omega (arith, k .slice-known .given j)) (s .before .invlpg-refusal .ensures) (s .if1 .left) in
     (i, search needs)
 
 same-length-2 : tie.Need-same-length-2
@@ -42,7 +42,7 @@ returns-3 : tie.Need-returns-3
 returns-3 c =
     let s = c .before .before in
     let k = s .before .before .before in
-    let i = call-image (invlpg (k .before .args .a)) (k .before .args .image .now) [] (s .before .invlpg-refusal .result) tt (λ j. omega (arith, k .slice-known .given j)) (s .before .invlpg-refusal .ensures) (s .if1 .left) in
+    let i = call-image (invlpg (k .before .args .a)) (k .before .args .image .now) empty (s .before .invlpg-refusal .result) tt (λ j. omega (arith, k .slice-known .given j)) (s .before .invlpg-refusal .ensures) (s .if1 .left) in
     search (invlpg-nothing, i)
 
 pub invlpg-spec : {M : Type 1} → statement M

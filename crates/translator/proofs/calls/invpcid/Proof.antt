@@ -1,5 +1,5 @@
 -- Refused, or accepted: then the bytes are an image's (`i`), and each type drops what the rules name.
-use mathlib.Core.List.{[]}
+use Rattle.rules.specs.Memory.{empty}
 use Rattle.rules.specs.Refusals.{invpcid}
 use native.Mathlib.Omega.{arith}
 use Rattle.translator.proofs.Calling.{refuses, call-image, asked-pcid-lt, invpcid-0, invpcid-1, invpcid-2, invpcid-3}
@@ -20,7 +20,7 @@ drop-address-requires : tie.Need-drop-address-requires
 drop-address-requires c κs =
     let s = c .before .before in
     let k = s .before .before .before in
-    let i = call-image (invpcid (k .before .args .kind) (k .before .args .pcid) (k .before .args .a)) (k .before .args .image .now) [] (s .before .invpcid-refusal .result) tt (λ j. omega (arith, k .slice-known .given j)) (s .before .invpcid-refusal .ensures) (s .if1 .left) in
+    let i = call-image (invpcid (k .before .args .kind) (k .before .args .pcid) (k .before .args .a)) (k .before .args .image .now) empty (s .before .invpcid-refusal .result) tt (λ j. omega (arith, k .slice-known .given j)) (s .before .invpcid-refusal .ensures) (s .if1 .left) in
     (i, search asked-pcid-lt)
 
 same-length-2 : tie.Need-same-length-2
@@ -33,7 +33,7 @@ drop-pcid-requires : tie.Need-drop-pcid-requires
 drop-pcid-requires c κs =
     let s = c .before .before .before in
     let k = s .before .before .before in
-    let i = call-image (invpcid (k .before .args .kind) (k .before .args .pcid) (k .before .args .a)) (k .before .args .image .now) [] (s .before .invpcid-refusal .result) tt (λ j. omega (arith, k .slice-known .given j)) (s .before .invpcid-refusal .ensures) (s .if1 .left) in
+    let i = call-image (invpcid (k .before .args .kind) (k .before .args .pcid) (k .before .args .a)) (k .before .args .image .now) empty (s .before .invpcid-refusal .result) tt (λ j. omega (arith, k .slice-known .given j)) (s .before .invpcid-refusal .ensures) (s .if1 .left) in
     (i, search asked-pcid-lt)
 
 same-length-3 : tie.Need-same-length-3
@@ -46,7 +46,7 @@ drop-everything-requires : tie.Need-drop-everything-requires
 drop-everything-requires c κs =
     let s = c .before .before .before .before in
     let k = s .before .before .before in
-    let i = call-image (invpcid (k .before .args .kind) (k .before .args .pcid) (k .before .args .a)) (k .before .args .image .now) [] (s .before .invpcid-refusal .result) tt (λ j. omega (arith, k .slice-known .given j)) (s .before .invpcid-refusal .ensures) (s .if1 .left) in
+    let i = call-image (invpcid (k .before .args .kind) (k .before .args .pcid) (k .before .args .a)) (k .before .args .image .now) empty (s .before .invpcid-refusal .result) tt (λ j. omega (arith, k .slice-known .given j)) (s .before .invpcid-refusal .ensures) (s .if1 .left) in
     i
 
 same-length-4 : tie.Need-same-length-4
@@ -59,7 +59,7 @@ drop-not-global-requires : tie.Need-drop-not-global-requires
 drop-not-global-requires c κs =
     let s = c .before .before .before .before in
     let k = s .before .before .before in
-    let i = call-image (invpcid (k .before .args .kind) (k .before .args .pcid) (k .before .args .a)) (k .before .args .image .now) [] (s .before .invpcid-refusal .result) tt (λ j. omega (arith, k .slice-known .given j)) (s .before .invpcid-refusal .ensures) (s .if1 .left) in
+    let i = call-image (invpcid (k .before .args .kind) (k .before .args .pcid) (k .before .args .a)) (k .before .args .image .now) empty (s .before .invpcid-refusal .result) tt (λ j. omega (arith, k .slice-known .given j)) (s .before .invpcid-refusal .ensures) (s .if1 .left) in
     i
 
 same-length-5 : tie.Need-same-length-5

@@ -1,5 +1,5 @@
 -- Refused, or accepted: then the bytes are an image's (`i`), also with the new CR3, and the drop is the one that the rules name, or none.
-use mathlib.Core.List.{[]}
+use Rattle.rules.specs.Memory.{empty}
 use Rattle.rules.specs.Refusals.{writeCr3}
 use native.Mathlib.Omega.{arith}
 use Rattle.translator.proofs.Calling.{refuses, call-room, cr3-long, cr3-image, cr3-keeps, cr3-drops, call-image}
@@ -29,21 +29,21 @@ returns-2 : tie.Need-returns-2
 returns-2 c =
     let s = c .before .before .before .before .before .before in
     let k = s .before .before .before in
-    let i = call-image (writeCr3 (k .before .args .value)) (k .before .args .image .now) [] (s .before .cr3-refusal .result) tt (λ j. omega (arith, k .slice-known .given j)) (s .before .cr3-refusal .ensures) (s .if1 .left) in
+    let i = call-image (writeCr3 (k .before .args .value)) (k .before .args .image .now) empty (s .before .cr3-refusal .result) tt (λ j. omega (arith, k .slice-known .given j)) (s .before .cr3-refusal .ensures) (s .if1 .left) in
     search (cr3-keeps, i)
 
 pcid-of-requires : tie.Need-pcid-of-requires
 pcid-of-requires c κs =
     let s = c .before .before .before .before .before .before .before in
     let k = s .before .before .before in
-    let i = call-image (writeCr3 (k .before .args .value)) (k .before .args .image .now) [] (s .before .cr3-refusal .result) tt (λ j. omega (arith, k .slice-known .given j)) (s .before .cr3-refusal .ensures) (s .if1 .left) in
+    let i = call-image (writeCr3 (k .before .args .value)) (k .before .args .image .now) empty (s .before .cr3-refusal .result) tt (λ j. omega (arith, k .slice-known .given j)) (s .before .cr3-refusal .ensures) (s .if1 .left) in
     search (cr3-long, i)
 
 drop-pcid-requires : tie.Need-drop-pcid-requires
 drop-pcid-requires c κs =
     let s = c .before .before .before .before .before .before .before .before .before in
     let k = s .before .before .before in
-    let i = call-image (writeCr3 (k .before .args .value)) (k .before .args .image .now) [] (s .before .cr3-refusal .result) tt (λ j. omega (arith, k .slice-known .given j)) (s .before .cr3-refusal .ensures) (s .if1 .left) in
+    let i = call-image (writeCr3 (k .before .args .value)) (k .before .args .image .now) empty (s .before .cr3-refusal .result) tt (λ j. omega (arith, k .slice-known .given j)) (s .before .cr3-refusal .ensures) (s .if1 .left) in
     (search (cr3-image, i), search needs)
 
 same-length-3 : tie.Need-same-length-3
@@ -53,7 +53,7 @@ returns-3 : tie.Need-returns-3
 returns-3 c =
     let s = c .before .before .before .before .before .before .before .before .before .before .before .before in
     let k = s .before .before .before in
-    let i = call-image (writeCr3 (k .before .args .value)) (k .before .args .image .now) [] (s .before .cr3-refusal .result) tt (λ j. omega (arith, k .slice-known .given j)) (s .before .cr3-refusal .ensures) (s .if1 .left) in
+    let i = call-image (writeCr3 (k .before .args .value)) (k .before .args .image .now) empty (s .before .cr3-refusal .result) tt (λ j. omega (arith, k .slice-known .given j)) (s .before .cr3-refusal .ensures) (s .if1 .left) in
     search (cr3-drops, i)
 
 pub write-cr3-spec : {M : Type 1} → statement M

@@ -1,5 +1,5 @@
 -- Refused, or accepted: then the bytes are an image's (`i`), also with the new flags, and everything is dropped, or nothing.
-use mathlib.Core.List.{[]}
+use Rattle.rules.specs.Memory.{empty}
 use Rattle.rules.specs.Refusals.{writeMode}
 use native.Mathlib.Omega.{arith}
 use Rattle.translator.proofs.Calling.{refuses, call-room, mode-image, mode-keeps, mode-drops, call-image}
@@ -32,14 +32,14 @@ returns-2 : tie.Need-returns-2
 returns-2 c =
     let s = c .before .before .before .before .before .before .before .before in
     let k = s .before .before .before in
-    let i = call-image (writeMode (k .before .args .value)) (k .before .args .image .now) [] (s .before .mode-refusal .result) tt (λ j. omega (arith, k .slice-known .given j)) (s .before .mode-refusal .ensures) (s .if1 .left) in
+    let i = call-image (writeMode (k .before .args .value)) (k .before .args .image .now) empty (s .before .mode-refusal .result) tt (λ j. omega (arith, k .slice-known .given j)) (s .before .mode-refusal .ensures) (s .if1 .left) in
     search (mode-keeps, i)
 
 drop-everything-requires : tie.Need-drop-everything-requires
 drop-everything-requires c κs =
     let s = c .before .before .before .before .before .before .before .before .before in
     let k = s .before .before .before in
-    let i = call-image (writeMode (k .before .args .value)) (k .before .args .image .now) [] (s .before .mode-refusal .result) tt (λ j. omega (arith, k .slice-known .given j)) (s .before .mode-refusal .ensures) (s .if1 .left) in
+    let i = call-image (writeMode (k .before .args .value)) (k .before .args .image .now) empty (s .before .mode-refusal .result) tt (λ j. omega (arith, k .slice-known .given j)) (s .before .mode-refusal .ensures) (s .if1 .left) in
     search (mode-image, i)
 
 same-length-3 : tie.Need-same-length-3
@@ -49,7 +49,7 @@ returns-3 : tie.Need-returns-3
 returns-3 c =
     let s = c .before .before .before .before .before .before .before .before .before .before .before .before in
     let k = s .before .before .before in
-    let i = call-image (writeMode (k .before .args .value)) (k .before .args .image .now) [] (s .before .mode-refusal .result) tt (λ j. omega (arith, k .slice-known .given j)) (s .before .mode-refusal .ensures) (s .if1 .left) in
+    let i = call-image (writeMode (k .before .args .value)) (k .before .args .image .now) empty (s .before .mode-refusal .result) tt (λ j. omega (arith, k .slice-known .given j)) (s .before .mode-refusal .ensures) (s .if1 .left) in
     search (mode-drops, i)
 
 pub write-mode-spec : {M : Type 1} → statement M

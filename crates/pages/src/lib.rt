@@ -1,0 +1,31 @@
+// The page lookup: the 4 KiB page that holds a physical address, handed back as a part of low or of high.
+ghost use mathlib.Core.Path.{_≡_};
+ghost use Rattle.rules.specs.Memory.{both, pageIn, pageOf};
+
+// The physical address of high's first byte.
+const HIGH_BASE: u64 = 0x1_0000_0000;
+
+// The page of one part that an address falls into, by the distance from the part's first byte.
+fn page_in(part: &[u8], at: usize) -> &[u8]
+    ensures { λ r. ⌜ now r ≡ pageIn (now (part .entry)) at ⌝ }
+{
+    if at / 4096 < part.len() / 4096 {
+        let from = at / 4096 * 4096;
+        let to = from + 4096;
+        return &part[from..to];
+    }
+    &part[0..0]
+}
+
+// The page, or nothing: neither part has it, or translate would refuse this memory.
+pub fn page_of<'a>(low: &'a [u8], high: &'a [u8], physical: u64) -> &'a [u8]
+    ensures { λ r. ⌜ now r ≡ pageOf (both (now (low .entry)) (now (high .entry))) physical ⌝ }
+{
+    if refusals::no_lengths(low, high) {
+        return &low[0..0];
+    }
+    if physical < HIGH_BASE {
+        return page_in(low, physical as usize);
+    }
+    page_in(high, (physical - HIGH_BASE) as usize)
+}

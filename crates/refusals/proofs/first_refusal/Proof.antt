@@ -1,0 +1,17 @@
+-- A way for each test.
+use Rattle.refusals.proofs.Checks.{no-kind, no-memory}
+use borrow.Author.Needs.{needs}
+use Rattle.refusals.proofs.first_refusal.Statement.{statement}
+use Rattle.refusals.proofs.first_refusal.Tie as tie
+
+returns : tie.Need-returns
+returns c = search needs
+
+returns-2 : tie.Need-returns-2
+returns-2 c = search no-kind
+
+returns-3 : tie.Need-returns-3
+returns-3 c = search no-memory
+
+pub first-refusal-spec : {M : Type 1} → statement M
+first-refusal-spec = tie.close (tie.spec returns returns-2 returns-3)
