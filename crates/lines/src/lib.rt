@@ -63,6 +63,7 @@ fn perform(order: Order, image: &mut [u8], mem: &mut [u8], answer: &mut [u8])
             records::write_record(answer, calls::invpcid(image, kind, pcid, address));
         }
         Order::Translate { kind, address } => {
+            // The guest has no RAM above the hole.
             let mut high = [0u8; 0];
             direct::translate_into(image, mem, &mut high, kind, address, 0, answer);
         }

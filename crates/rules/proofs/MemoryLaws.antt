@@ -3,7 +3,7 @@
 use Prim.Native.Nat.{ℕ, _+_, _-_, _%_, _≤_, _<_}
 use mathlib.Core.Path.{_≡_, refl, ap, sym}
 use mathlib.Core.Logic.{_≢_}
-use mathlib.Core.Bool.{Bool, true, false, cond, _||_, not}
+use mathlib.Core.Bool.{Bool, true, false, cond, _||_, not, or-true}
 use mathlib.Core.List.{List}
 use native.Mathlib.Omega.{arith}
 use lib.ListN.{length}
@@ -115,10 +115,6 @@ limit-allowed mem h e = rw (h, e)
 
 pub limit-passed : (mem : Memory) → length (mem .low) ≡ 0xB0001000 → noLengths mem ≡ true
 limit-passed mem h = rw h (or-true (not (eqb (length (mem .high) % 4096) 0)))
-  where
-    or-true : (x : Bool) → (x || true) ≡ true
-    or-true true = refl
-    or-true false = refl
 
 -- lengths alone decide
 pub lengths-stay : (mem mem′ : Memory) → SameLengths mem mem′ → noLengths mem′ ≡ noLengths mem

@@ -35,7 +35,7 @@ abbrev pub Throughout : (History → Memory → Request → Bool) → (History �
 Throughout begins P (begun b w ok) = P (begun b w ok)
 Throughout begins P (h then q with mem) = P (h then q with mem) × Unless (begins h mem q) (Throughout begins P h)
 
--- ---- only the translator changed guest memory, its bytes or its length: in the span, each accepted translate, and at last the one that is lent
+-- ---- only the translator changed guest memory, the bytes or the length of low or of high: in the span, each accepted translate, and at last the one that is lent
 -- `last`, was lent what the accepted translate before it left. Other calls are given no guest memory, and refused ones leave it alone: they ask nothing
 abbrev pub isTranslate : Request → Bool
 isTranslate (start w) = false
