@@ -1,9 +1,7 @@
 // The page lookup: the 4 KiB page that holds a physical address, handed back as a part of low or of high.
 ghost use mathlib.Core.Path.{_≡_};
 ghost use Rattle.rules.specs.Memory.{both, pageIn, pageOf};
-
-// The physical address of high's first byte.
-const HIGH_BASE: u64 = 0x1_0000_0000;
+use rules::HIGH_BASE;
 
 // The page of one part that an address falls into, by the distance from the part's first byte.
 fn page_in(part: &[u8], at: usize) -> &[u8]
@@ -24,8 +22,9 @@ pub fn page_of<'a>(low: &'a [u8], high: &'a [u8], physical: u64) -> &'a [u8]
     if refusals::no_lengths(low, high) {
         return &low[0..0];
     }
-    if physical < HIGH_BASE {
-        return page_in(low, physical as usize);
+    let at = physical as usize;
+    if at < HIGH_BASE {
+        return page_in(low, at);
     }
-    page_in(high, (physical - HIGH_BASE) as usize)
+    page_in(high, at - HIGH_BASE)
 }

@@ -65,6 +65,7 @@ pub fn word(mem: &[u8; 24576], at: usize) -> u64
 pub fn translate(image: &mut [u8; 2048], mem: &mut [u8; 24576], kind: u64, a: u64) -> Told
     ensures { λ r. ⌜ CameWith (translateOf kind a 0) (now (image .entry)) (now (image .exit)) (now (mem .entry)) (now (mem .exit)) r ⌝ }
 {
+    // All its RAM is low.
     let mut high = [0u8; 0];
     report::told_of(translation::translate(image, mem, &mut high, kind, a, 0))
 }

@@ -13,13 +13,11 @@ ghost use Rattle.numbers.specs.Needs.{Known};
 use rules::Cause;
 use rules::Control;
 use rules::Found;
+use rules::HIGH_BASE;
 use rules::Rights;
 
 // What an entry outside memory reads as.
 const OUTSIDE: u64 = 0xFFFF_FFFF_FFFF_FFFF;
-
-// The physical address of high's first byte.
-const HIGH_BASE: usize = 0x1_0000_0000;
 
 // P, RW, US, A and D: an entry is looked at with these turned over. Then each bit that is set, as XD always did, takes a right or a mark away, and what is
 // lacking after several entries is their `or`.
