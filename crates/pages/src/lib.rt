@@ -1,11 +1,11 @@
 // The page lookup: the 4 KiB page that holds a physical address, handed back as a part of low or of high.
 ghost use mathlib.Core.Path.{_≡_};
-ghost use Rattle.rules.specs.Memory.{both, pageIn, pageOf};
+ghost use Rattle.rules.specs.Memory.{both, pageOfPart, pageOf};
 use rules::HIGH_BASE;
 
 // The page of one part that an address falls into, by the distance from the part's first byte.
 fn page_in(part: &[u8], at: usize) -> &[u8]
-    ensures { λ r. ⌜ now r ≡ pageIn (now (part .entry)) at ⌝ }
+    ensures { λ r. ⌜ now r ≡ pageOfPart (now (part .entry)) at ⌝ }
 {
     if at / 4096 < part.len() / 4096 {
         let from = at / 4096 * 4096;

@@ -9,7 +9,7 @@ use lib.Seq.{take-take, drop-drop}
 use lib.Dec.{ltb}
 use borrow.Author.Tests.{ltb-true, ltb-false}
 use Rattle.rules.specs.Bits.{word, wordAt}
-use Rattle.rules.specs.Memory.{Memory, highBase, entryIn, pageIn, entryAt, noLengths, pageOf}
+use Rattle.rules.specs.Memory.{Memory, highBase, entryIn, pageOfPart, entryAt, noLengths, pageOf}
 use Rattle.rules.proofs.PartLaws.{entry-inside}
 
 within : (i m n : ℕ) (l : List ℕ) → i + m ≤ n → take m (drop i (take n l)) ≡ take m (drop i l)
@@ -31,7 +31,7 @@ module _ (part : List ℕ) (a : ℕ) (eight : a % 8 ≡ 0) where
       ∙ ap (take 8) (drop-drop (a % 4096) (a / 4096 * 4096) part ∙ ap (λ (i : ℕ). drop i part) whole) in
       entry-inside a part (omega arith) ∙ ap word (sym e)
 
-  page-reads : Reads (pageIn part a)
+  page-reads : Reads (pageOfPart part a)
   page-reads = go (ltb (a / 4096) (length part / 4096)) refl
     where
       go : (x : Bool) → ltb (a / 4096) (length part / 4096) ≡ x → Reads (cond x (take 4096 (drop (a / 4096 * 4096) part)) [])
@@ -42,12 +42,12 @@ module _ (part : List ℕ) (a : ℕ) (eight : a % 8 ≡ 0) where
 pub page-entry : (mem : Memory) (a : ℕ) → a % 8 ≡ 0 → (pageOf mem a ≡ [] → ⊥) → entryAt mem a ≡ wordAt (pageOf mem a) (a % 4096)
 page-entry mem a eight = go (noLengths mem) (ltb a highBase) refl
   where
-    go : (x y : Bool) → ltb a highBase ≡ y → (cond x [] (cond y (pageIn (mem .low) a) (pageIn (mem .high) (a - highBase))) ≡ [] → ⊥)
+    go : (x y : Bool) → ltb a highBase ≡ y → (cond x [] (cond y (pageOfPart (mem .low) a) (pageOfPart (mem .high) (a - highBase))) ≡ [] → ⊥)
         → cond y (entryIn (mem .low) a) (entryIn (mem .high) (a - highBase))
-        ≡ wordAt (cond x [] (cond y (pageIn (mem .low) a) (pageIn (mem .high) (a - highBase)))) (a % 4096)
+        ≡ wordAt (cond x [] (cond y (pageOfPart (mem .low) a) (pageOfPart (mem .high) (a - highBase)))) (a % 4096)
     go true y e n = absurd (n refl)
     go false true e n = page-reads (mem .low) a eight n
     go false false e n =
         let h : (a - highBase) % 8 ≡ 0 = omega (arith, ltb-false a highBase e) in
         let q : (a - highBase) % 4096 ≡ a % 4096 = omega (arith, ltb-false a highBase e) in
-        page-reads (mem .high) (a - highBase) h n ∙ ap (wordAt (pageIn (mem .high) (a - highBase))) q
+        page-reads (mem .high) (a - highBase) h n ∙ ap (wordAt (pageOfPart (mem .high) (a - highBase))) q

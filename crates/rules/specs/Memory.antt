@@ -39,8 +39,8 @@ abbrev pub addedIn : ℕ → ℕ → List ℕ → List ℕ
 addedIn k a part = set part a (withBit k (getD part a 0))
 
 -- the 4 KiB that an address falls into, if the part has them
-abbrev pub pageIn : List ℕ → ℕ → List ℕ
-pageIn part a = cond (ltb (a / 4096) (length part / 4096)) (take 4096 (drop (a / 4096 * 4096) part)) []
+abbrev pub pageOfPart : List ℕ → ℕ → List ℕ
+pageOfPart part a = cond (ltb (a / 4096) (length part / 4096)) (take 4096 (drop (a / 4096 * 4096) part)) []
 
 -- ---- at a physical address: below 4 GiB it is one of low, from there on of high. What lies between low's end and 4 GiB is the hole
 abbrev pub entryAt : Memory → ℕ → ℕ
@@ -54,7 +54,7 @@ added k a mem =
 abbrev pub noLengths : Memory → Bool
 noLengths mem = not (eqb (length (mem .low) % 4096) 0) || not (eqb (length (mem .high) % 4096) 0) || ltb lowMost (length (mem .low))
 
--- what walks ask of memory, and memory that is not refused has: whole words, and no byte of low past the hole
+-- what walks ask of memory, and memory that is not refused has: whole words, and a low that does not reach beyond 4 GiB
 pub record Whole (mem : Memory) : Type 0 where
   pub low : length (mem .low) % 8 ≡ 0
   pub high : length (mem .high) % 8 ≡ 0
@@ -63,4 +63,4 @@ pub record Whole (mem : Memory) : Type 0 where
 -- ---- the page lookup: the 4 KiB page that holds a physical address, as a part of low or of high; empty if neither has it, or if memory is refused
 abbrev pub pageOf : Memory → ℕ → List ℕ
 pageOf mem a =
-    cond (noLengths mem) [] (cond (ltb a highBase) (pageIn (mem .low) a) (pageIn (mem .high) (a - highBase)))
+    cond (noLengths mem) [] (cond (ltb a highBase) (pageOfPart (mem .low) a) (pageOfPart (mem .high) (a - highBase)))
