@@ -36,8 +36,8 @@ VERSION := $(shell sed -n 's/^.define PASTRULOW_VERSION UINT64_C(\([0-9]*\))$$/\
 test: c-tests
 	@rt ci
 
-c-tests: tools $(addprefix $(HOST)/,demo demo-c++ demo-installed demo-later header header-bytes trial lengths page \
-    differential journal vectors_bochs bochs.txt vectors_sequences sequences.txt vectors_linux linux-guest.bin \
+c-tests: tools $(addprefix $(HOST)/,demo demo-c++ demo-installed demo-later header header-bytes trial lengths slices \
+    page differential journal vectors_bochs bochs.txt vectors_sequences sequences.txt vectors_linux linux-guest.bin \
     linux-guest.txt guest-high.bin guest-high.txt twin) $(REPLAY) $(TRACES)
 	$(RUN) $(HOST)/demo >$(HOST)/demo.out
 	$(RUN) $(HOST)/demo-c++ >$(HOST)/demo-c++.out
@@ -50,6 +50,7 @@ c-tests: tools $(addprefix $(HOST)/,demo demo-c++ demo-installed demo-later head
 	$(RUN) $(HOST)/header-bytes
 	$(RUN) $(HOST)/trial
 	$(RUN) $(HOST)/lengths
+	$(RUN) $(HOST)/slices
 	$(RUN) $(HOST)/page
 	$(RUN) $(HOST)/vectors_bochs $(HOST)/bochs.txt
 	$(RUN) $(HOST)/vectors_sequences $(HOST)/sequences.txt
@@ -148,9 +149,12 @@ $(HOST)/header $(HOST)/header-bytes: $(TEST)/header.c $(TEST)/check.c $(TEST)/ma
 $(HOST)/trial: $(TEST)/trial.c $(TEST)/machine.c $(HEADERS) $(ARCHIVE) | $(HOST)
 	$(C) $(CFLAGS) -static -o $@ $(TEST)/trial.c $(TEST)/machine.c $(ARCHIVE)
 
-LENGTHS := $(addprefix $(TEST)/,lengths.c check.c machine.c sparse.c)
-$(HOST)/lengths: $(LENGTHS) $(HEADERS) $(ARCHIVE) | $(HOST)
-	$(C) $(CFLAGS) -static -o $@ $(LENGTHS) $(ARCHIVE)
+$(HOST)/lengths: $(TEST)/lengths.c $(TEST)/check.c $(HEADERS) $(ARCHIVE) | $(HOST)
+	$(C) $(CFLAGS) -static -o $@ $(TEST)/lengths.c $(TEST)/check.c $(ARCHIVE)
+
+SLICES := $(addprefix $(TEST)/,slices.c check.c machine.c sparse.c)
+$(HOST)/slices: $(SLICES) $(HEADERS) $(ARCHIVE) | $(HOST)
+	$(C) $(CFLAGS) -static -o $@ $(SLICES) $(ARCHIVE)
 
 PAGE := $(addprefix $(TEST)/,page.c check.c random.c sparse.c)
 $(HOST)/page: $(PAGE) $(HEADERS) $(PAGE_ARCHIVE) | $(HOST)
