@@ -36,7 +36,7 @@ VERSION := $(shell sed -n 's/^.define PASTRULOW_VERSION UINT64_C(\([0-9]*\))$$/\
 test: c-tests
 	@rt ci
 
-c-tests: tools $(addprefix $(HOST)/,demo demo-c++ demo-installed demo-later header header-bytes trial lengths slices \
+c-tests: tools $(addprefix $(HOST)/,demo demo-c++ demo-installed demo-later header header-bytes trial start lengths slices \
     page differential journal vectors_bochs bochs.txt vectors_sequences sequences.txt vectors_linux linux-guest.bin \
     linux-guest.txt guest-high.bin guest-high.txt twin) $(REPLAY) $(TRACES)
 	$(RUN) $(HOST)/demo >$(HOST)/demo.out
@@ -49,6 +49,7 @@ c-tests: tools $(addprefix $(HOST)/,demo demo-c++ demo-installed demo-later head
 	$(RUN) $(HOST)/header
 	$(RUN) $(HOST)/header-bytes
 	$(RUN) $(HOST)/trial
+	$(RUN) $(HOST)/start
 	$(RUN) $(HOST)/lengths
 	$(RUN) $(HOST)/slices
 	$(RUN) $(HOST)/page
@@ -148,6 +149,10 @@ $(HOST)/header $(HOST)/header-bytes: $(TEST)/header.c $(TEST)/check.c $(TEST)/ma
 
 $(HOST)/trial: $(TEST)/trial.c $(TEST)/machine.c $(HEADERS) $(ARCHIVE) | $(HOST)
 	$(C) $(CFLAGS) -static -o $@ $(TEST)/trial.c $(TEST)/machine.c $(ARCHIVE)
+
+START := $(addprefix $(TEST)/,start.c check.c machine.c random.c)
+$(HOST)/start: $(START) $(HEADERS) $(ARCHIVE) | $(HOST)
+	$(C) $(CFLAGS) -static -o $@ $(START) $(ARCHIVE)
 
 $(HOST)/lengths: $(TEST)/lengths.c $(TEST)/check.c $(HEADERS) $(ARCHIVE) | $(HOST)
 	$(C) $(CFLAGS) -static -o $@ $(TEST)/lengths.c $(TEST)/check.c $(ARCHIVE)

@@ -286,15 +286,37 @@ uint64_t pastrulow_translate_many(uint8_t *image, size_t image_len, uint8_t *low
     return 0;
 }
 
-uint64_t pastrulow_start(uint8_t *image, size_t image_len, uint64_t width, uint8_t *answer, size_t answer_len)
+/* Flags of which these change, over this CR3. */
+PART bool mode_fits(uint64_t flags, uint64_t changed, uint64_t cr3)
+{
+    bool without_paging = (flags & (PASTRULOW_PCIDE | PASTRULOW_PG)) == PASTRULOW_PCIDE;
+    bool turned_on = (flags & changed & PASTRULOW_PCIDE) != 0;
+    return flags <= 127 && !without_paging && !(turned_on && (cr3 & 4095) != 0);
+}
+
+PART uint64_t start(uint8_t *image, size_t image_len, uint64_t width, uint64_t flags, uint8_t *answer, size_t answer_len)
 {
     if (UNLIKELY(answer_len != PASTRULOW_ANSWER_BYTES))
         return 1;
     if (UNLIKELY(image_len != PASTRULOW_IMAGE_BYTES || width - 36 > 16))
         return refuse(answer, 2);
+    if (UNLIKELY(!mode_fits(flags, flags, 0)))
+        return refuse(answer, 7);
     memset(image, 0, PASTRULOW_IMAGE_BYTES);
     store(image, width);
+    store(image + FLAGS_AT, flags);
     return answer_done(answer);
+}
+
+uint64_t pastrulow_start(uint8_t *image, size_t image_len, uint64_t width, uint8_t *answer, size_t answer_len)
+{
+    return start(image, image_len, width, PASTRULOW_WP, answer, answer_len);
+}
+
+uint64_t pastrulow_start_with(uint8_t *image, size_t image_len, uint64_t width, uint64_t flags, uint8_t *answer,
+                              size_t answer_len)
+{
+    return start(image, image_len, width, flags, answer, answer_len);
 }
 
 uint64_t pastrulow_invlpg(uint8_t *image, size_t image_len, uint64_t address, uint8_t *answer, size_t answer_len)
@@ -381,9 +403,7 @@ uint64_t pastrulow_write_mode(uint8_t *image, size_t image_len, uint64_t flags, 
     if (UNLIKELY(image_len != PASTRULOW_IMAGE_BYTES || !image_fits(image)))
         return refuse(answer, 2);
     uint64_t changed = flags ^ load(image + FLAGS_AT);
-    bool without_paging = (flags & (PASTRULOW_PCIDE | PASTRULOW_PG)) == PASTRULOW_PCIDE;
-    bool turned_on = (flags & changed & PASTRULOW_PCIDE) != 0;
-    if (UNLIKELY(flags > 127 || without_paging || (turned_on && (load(image + CR3_AT) & 4095) != 0)))
+    if (UNLIKELY(!mode_fits(flags, changed, load(image + CR3_AT))))
         return refuse(answer, 7);
     store(image + FLAGS_AT, flags);
     if ((changed & ~(PASTRULOW_WP | PASTRULOW_SMEP | PASTRULOW_SMAP)) != 0)

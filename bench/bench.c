@@ -31,6 +31,7 @@ static size_t high_len;
 
 struct door {
     uint64_t (*start)(uint8_t *, size_t, uint64_t, uint8_t *, size_t);
+    uint64_t (*start_with)(uint8_t *, size_t, uint64_t, uint64_t, uint8_t *, size_t);
     uint64_t (*translate)(uint8_t *, size_t, uint8_t *, size_t, uint8_t *, size_t, uint64_t, uint64_t, uint64_t, uint8_t *,
                           size_t);
     uint64_t (*translate_many)(uint8_t *, size_t, uint8_t *, size_t, uint8_t *, size_t, const uint8_t *, size_t, uint8_t *,
@@ -43,14 +44,20 @@ struct door {
     uint64_t (*report)(uint8_t *, size_t, uint64_t, uint64_t, uint64_t);
 };
 
-static const struct door full = {pastrulow_start,      pastrulow_translate,     pastrulow_translate_many,
-                                 pastrulow_invlpg,     pastrulow_invpcid,       pastrulow_write_cr3,
-                                 pastrulow_write_mode, pastrulow_journal_clear, pastrulow_journal_report};
+static const struct door full = {pastrulow_start,          pastrulow_start_with, pastrulow_translate,
+                                 pastrulow_translate_many, pastrulow_invlpg,     pastrulow_invpcid,
+                                 pastrulow_write_cr3,      pastrulow_write_mode, pastrulow_journal_clear,
+                                 pastrulow_journal_report};
 
 /* Calls that do nothing but return: two instructions each. */
 static uint64_t no_start(uint8_t *i, size_t il, uint64_t w, uint8_t *a, size_t al)
 {
     return (void)i, (void)il, (void)w, (void)a, (void)al, 0;
+}
+
+static uint64_t no_start_with(uint8_t *i, size_t il, uint64_t w, uint64_t f, uint8_t *a, size_t al)
+{
+    return (void)i, (void)il, (void)w, (void)f, (void)a, (void)al, 0;
 }
 
 static uint64_t no_translate(uint8_t *i, size_t il, uint8_t *l, size_t ll, uint8_t *h, size_t hl, uint64_t k, uint64_t v,
@@ -80,10 +87,10 @@ static uint64_t no_report(uint8_t *j, size_t jl, uint64_t v, uint64_t c, uint64_
     return (void)j, (void)jl, (void)v, (void)c, (void)r, 0;
 }
 
-static const struct door empty = {no_start, no_translate, no_many,  no_start, no_invpcid,
-                                  no_start, no_start,     no_clear, no_report};
+static const struct door empty = {no_start,   no_start_with, no_translate, no_many,  no_start,
+                                  no_invpcid, no_start,      no_start,     no_clear, no_report};
 
-enum name { START, TRANSLATE, TRANSLATE_MANY, INVLPG, INVPCID, WRITE_CR3, WRITE_MODE, CLEAR, REPORT };
+enum name { START, START_WITH, TRANSLATE, TRANSLATE_MANY, INVLPG, INVPCID, WRITE_CR3, WRITE_MODE, CLEAR, REPORT };
 
 /*
  * What the buffer holds before the call: nothing; the page of 0x123, 0x212345 or 0x40000010; a page in each of the 100 slots,
@@ -152,6 +159,7 @@ static const struct operation operations[] = {
     {"INVPCID type 2, one page held", INVPCID, {2, 0, 0}, PAGE_4K, IMAGE, LOW, FLAGS, {3, 0, 0, 0}},
     {"INVPCID type 3, one page held", INVPCID, {3, 0, 0}, PAGE_4K, IMAGE, LOW, FLAGS, {3, 0, 0, 0}},
     {"start", START, {40, 0, 0}, NOTHING, NONE, LOW, FLAGS, {3, 0, 0, 0}},
+    {"start with flags", START_WITH, {40, FLAGS, 0}, NOTHING, NONE, LOW, FLAGS, {3, 0, 0, 0}},
     {"journal: report equal to record 0", REPORT, {0x123, CODE, ROOT}, RECORDS_64, JOURNAL, LOW, FLAGS, {64, 0, 65, 0}},
     {"journal: report equal to record 63", REPORT, {0x3f123, CODE, ROOT}, RECORDS_64, JOURNAL, LOW, FLAGS, {64, 0, 65, 1}},
     {"journal: report lost", REPORT, {0x40123, CODE, ROOT}, RECORDS_64, JOURNAL, LOW, FLAGS, {64, 1, 65, 0}},
@@ -168,6 +176,8 @@ static uint64_t make(const struct door *door, const struct operation *operation)
     switch (operation->name) {
     case START:
         return door->start(image, image_len, n[0], record, sizeof record);
+    case START_WITH:
+        return door->start_with(image, image_len, n[0], n[1], record, sizeof record);
     case TRANSLATE:
         return door->translate(image, image_len, low, GUEST_BYTES, lent_high, high_len, n[0], n[1], n[2], record,
                                sizeof record);

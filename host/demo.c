@@ -1,7 +1,7 @@
 /*
  * An example host: the trial guest of document 01, with RAM above 4 GiB too; a few accesses, a byte of guest memory, an INVLPG,
- * a CR3 switch, a saved state with PCIDs, many addresses in one call, and a user page under SMEP and SMAP; and a journal of the
- * faults. It may be copied; it compiles as C11 and as C++17. Link it with libpastrulow.a.
+ * a CR3 switch, a saved state with PCIDs, many addresses in one call, a user page under SMEP and SMAP, and a processor that is
+ * reset; and a journal of the faults. It may be copied; it compiles as C11 and as C++17. Link it with libpastrulow.a.
  */
 #include <inttypes.h>
 #include <stdio.h>
@@ -81,10 +81,12 @@ static void check_version(void)
     exit(1);
 }
 
-/* A fresh image in a given state, such as a saved one. PCIDE cannot be turned on while CR3 has a PCID, so that comes last. */
+/* A fresh image in a given state, such as a saved one. Paging comes on over the right root, and PCIDE, which cannot be turned on
+   while CR3 has a PCID, before that. */
 static void load_state(uint64_t width, uint64_t flags, uint64_t cr3)
 {
-    must(pastrulow_start(image, sizeof image, width, record, sizeof record), "start");
+    uint64_t early = flags & ~(PASTRULOW_PG | PASTRULOW_PCIDE);
+    must(pastrulow_start_with(image, sizeof image, width, early, record, sizeof record), "start");
     write_cr3(cr3 & ~PASTRULOW_CR3_PCID);
     write_mode(flags);
     write_cr3(cr3);
@@ -277,6 +279,19 @@ static void show_user_page(void)
     ac = 0;
 }
 
+/* A mode write sets all flags: one that turns paging on says of write protect too whether it stays on. */
+static void show_reset(void)
+{
+    printf("the processor is reset: it starts with write protect on, and the guest turns paging on beside it\n");
+    must(pastrulow_start(image, sizeof image, 40, record, sizeof record), "start");
+    write_cr3(0x1000);
+    write_mode(PASTRULOW_PG | PASTRULOW_WP);
+    access_memory(PASTRULOW_WRITE, 0x1000);
+    printf("the guest turns write protect off\n");
+    write_mode(PASTRULOW_PG);
+    access_memory(PASTRULOW_WRITE, 0x1000);
+}
+
 static void show_record(size_t number)
 {
     struct pastrulow_journal_record fault = pastrulow_read_journal_record(journal, number);
@@ -310,6 +325,7 @@ int main(void)
     show_saved_state();
     show_many();
     show_user_page();
+    show_reset();
     show_journal();
     return 0;
 }

@@ -1,9 +1,9 @@
 /*
  * pastrulow: x86-64 address translation with a translation buffer, and a journal of page faults, for a host in C or C++.
  *
- * The translator's seven calls: the host keeps the whole state in an image of 2,048 bytes and lends it to each of them. Six of
- * them write an answer record of 32 bytes and return the refusal number, or 0. The seventh, translate_many, writes a record for
- * each of many addresses, and returns the refusal number of the whole call, which is 10, or 0.
+ * The translator's eight calls: the host keeps the whole state in an image of 2,048 bytes and lends it to each of them. Seven
+ * of them write an answer record of 32 bytes and return the refusal number, or 0. The eighth, translate_many, writes a record
+ * for each of many addresses, and returns the refusal number of the whole call, which is 10, or 0.
  * The journal's two calls: the host lends a journal of 2,624 bytes and nothing else. They write no answer record, and return
  * the refusal number, which is 9, or 0. A host that wants no journal need not have one.
  * The library keeps nothing between calls.
@@ -44,8 +44,10 @@ extern "C" {
  *   3: translate takes AC, after the address; SMEP and SMAP are flags, and with SMEP on a fetch's fault has
  *      PASTRULOW_CODE_FETCH too
  *   4: translate and translate_many take guest memory as two slices, low and high; low has a limit (refusal 4)
+ *   5: start leaves write protect on; a host that wants the image that start made before, with all flags off, as an old loader
+ *      or a replayed trace does, calls start_with with flags 0
  */
-#define PASTRULOW_VERSION UINT64_C(4)
+#define PASTRULOW_VERSION UINT64_C(5)
 uint64_t pastrulow_version(void);
 
 /* Lengths in bytes. */
@@ -66,11 +68,11 @@ uint64_t pastrulow_version(void);
 /* The pairs that translate_many takes, at most. */
 #define PASTRULOW_PAIRS_MAX 64
 
-/* The physical width that start takes, in bits. */
+/* The physical width that a start takes, in bits. */
 #define PASTRULOW_WIDTH_MIN 36
 #define PASTRULOW_WIDTH_MAX 52
 
-/* Flags of a mode write. */
+/* Flags of a mode write, and of start_with. */
 #define PASTRULOW_PG UINT64_C(1)     /* paging */
 #define PASTRULOW_WP UINT64_C(2)     /* read-only pages bind a supervisor's writes too */
 #define PASTRULOW_PGE UINT64_C(4)    /* global pages */
@@ -117,22 +119,33 @@ uint64_t pastrulow_version(void);
  * translate are in translate_many each pair's own, and stand in its record alone.
  */
 #define PASTRULOW_REFUSED_ANSWER UINT64_C(1)  /* all but translate_many: the answer is not 32 bytes long */
-#define PASTRULOW_REFUSED_IMAGE UINT64_C(2)   /* all: the image is not 2,048 bytes long; start: the width is not 36 to 52; the
-                                                 others: the image holds such a width, a flag that does not exist, a bit after
-                                                 the victim numbers, or a byte other than 0 after the slots */
+#define PASTRULOW_REFUSED_IMAGE UINT64_C(2)   /* all: the image is not 2,048 bytes long; start and start_with: the width is not
+                                                 36 to 52; the others: the image holds such a width, a flag that does not exist,
+                                                 a bit after the victim numbers, or a byte other than 0 after the slots */
 #define PASTRULOW_REFUSED_KIND UINT64_C(3)    /* translate: no such access kind */
 #define PASTRULOW_REFUSED_MEMORY UINT64_C(4)  /* translate: low or high is not whole pages, or low is longer than its limit */
 #define PASTRULOW_REFUSED_ADDRESS UINT64_C(5) /* translate: not canonical with paging on; above 32 bits with paging off */
 #define PASTRULOW_REFUSED_CR3 UINT64_C(6)     /* CR3 write: a bit from the width up to 62, or bit 63 with PCIDE off */
 #define PASTRULOW_REFUSED_MODE UINT64_C(7)    /* mode write: no such flag; PCIDE without PG; PCIDE turned on while the low 12
-                                                 bits of CR3 are not 0 */
+                                                 bits of CR3 are not 0; start_with: as a mode write from flags 0 and CR3 0 */
 #define PASTRULOW_REFUSED_INVPCID UINT64_C(8) /* INVPCID: no such type; PCID above 4095; type 0 and the address not canonical;
                                                  type 0 or 1, PCIDE off and the PCID not 0 */
 #define PASTRULOW_REFUSED_PAIRS UINT64_C(10)  /* translate_many: the pairs' length is no multiple of 16, or they are more
                                                  than 64; or the answers' length is not 32 a pair */
 
-/* Makes a new image for a machine of this physical width: paging off, buffer empty. What the image held before is not read. */
+/*
+ * Makes a new image for a machine of this physical width: write protect on and all other flags off, CR3 0, buffer empty. What
+ * the image held before is not read. The flags are as a mode write leaves them: one that is to turn paging on and keep write
+ * protect has both, PASTRULOW_PG | PASTRULOW_WP.
+ */
 uint64_t pastrulow_start(uint8_t *image, size_t image_len, uint64_t width, uint8_t *answer, size_t answer_len);
+
+/*
+ * The same with these flags. They are judged as those of a mode write from flags 0 and CR3 0, so PCIDE is taken with PG and
+ * refused without (refusal 7). With PG on, paging is on at once, and the root is 0 until the first CR3 write.
+ */
+uint64_t pastrulow_start_with(uint8_t *image, size_t image_len, uint64_t width, uint64_t flags, uint8_t *answer,
+                              size_t answer_len);
 
 /*
  * Translates an address for one access, from the buffer or by a walk that sets accessed and dirty bits in guest memory. AC is
@@ -172,10 +185,10 @@ uint64_t pastrulow_write_cr3(uint8_t *image, size_t image_len, uint64_t value, u
 uint64_t pastrulow_write_mode(uint8_t *image, size_t image_len, uint64_t flags, uint8_t *answer, size_t answer_len);
 
 /*
- * A saved state, which is a width, flags, and CR3 without bit 63, is loaded by four calls, always in this order: start with the
- * width; the CR3 write with PCID 0, so that the root is there when paging is turned on, and PCIDE can be (refusal 7); the mode
- * write with the flags; the CR3 write again, with the whole value. None is refused if calls have led to that state before. The
- * buffer is then empty.
+ * A saved state, which is a width, flags, and CR3 without bit 63, is loaded by four calls, always in this order: start_with the
+ * flags less PG and PCIDE; the CR3 write with its low 12 bits 0, so that the root is there when paging is turned on, and PCIDE
+ * can be (refusal 7); the mode write with all the flags; the CR3 write again, with the whole value. None is refused if calls
+ * have led to that state before. The buffer is then empty, and no root but the saved one was in force while paging was on.
  */
 
 /* The record, read. */

@@ -18,7 +18,9 @@ static enum call_name random_name(struct random *random)
         return INVPCID;
     if (which < 190)
         return WRITE_CR3;
-    return which < 199 ? WRITE_MODE : START;
+    if (which < 199)
+        return WRITE_MODE;
+    return random_percent(random, 50) ? START : START_WITH;
 }
 
 /* Mostly the guest's own flags, else with one or more of them changed; rarely a value that does not exist. */
@@ -50,6 +52,11 @@ static size_t wrong_length(struct random *random, size_t right)
 static uint64_t odd_word(struct random *random)
 {
     return random_percent(random, 50) ? random_word(random) : random_below(random, 70);
+}
+
+static uint64_t random_width(struct random *random, const struct guest *guest)
+{
+    return random_percent(random, 40) ? odd_word(random) : guest->width;
 }
 
 /* Now and then one that only by its low bits is a kind. */
@@ -91,7 +98,11 @@ static void random_numbers(struct random *random, const struct guest *guest, str
 {
     switch (call->name) {
     case START:
-        call->numbers[0] = random_percent(random, 40) ? odd_word(random) : guest->width;
+        call->numbers[0] = random_width(random, guest);
+        break;
+    case START_WITH:
+        call->numbers[0] = random_width(random, guest);
+        call->numbers[1] = random_percent(random, 50) ? random_below(random, 128) : random_flags(random, guest);
         break;
     case TRANSLATE:
         call->numbers[0] = random_kind(random);
@@ -173,7 +184,8 @@ size_t call_pairs(const struct call *call)
 
 void call_print(const struct call *call)
 {
-    static const char *const names[] = {"start", "translate", "translate_many", "invlpg", "invpcid", "write_cr3", "write_mode"};
+    static const char *const names[] = {"start",  "start_with", "translate", "translate_many",
+                                        "invlpg", "invpcid",    "write_cr3", "write_mode"};
     printf("  call %s 0x%" PRIx64 " 0x%" PRIx64 " 0x%" PRIx64 ", image %zu, low %zu, high %zu, pairs %zu, answer %zu bytes\n",
            names[call->name], call->numbers[0], call->numbers[1], call->numbers[2], call->image_len, call->low_len,
            call->high_len, call->pairs_len, call->answer_len);

@@ -5,11 +5,11 @@
 #include "guest.h"
 #include "lent.h"
 
-enum call_name { START, TRANSLATE, TRANSLATE_MANY, INVLPG, INVPCID, WRITE_CR3, WRITE_MODE };
+enum call_name { START, START_WITH, TRANSLATE, TRANSLATE_MANY, INVLPG, INVPCID, WRITE_CR3, WRITE_MODE };
 
 struct call {
     enum call_name name;
-    uint64_t numbers[3]; /* width; kind, address, AC; none; address; type, PCID, address; value; flags */
+    uint64_t numbers[3]; /* width; width, flags; kind, address, AC; none; address; type, PCID, address; value; flags */
     uint8_t pairs[LENT_PAIRS];
     size_t image_len, low_len, high_len, pairs_len, answer_len;
     bool low_null, high_null; /* no bytes, lent as NULL */

@@ -31,6 +31,8 @@ uint64_t call_door(const struct call *call, struct lent *lent)
     switch (call->name) {
     case START:
         return pastrulow_start(image, call->image_len, n[0], answer, call->answer_len);
+    case START_WITH:
+        return pastrulow_start_with(image, call->image_len, n[0], n[1], answer, call->answer_len);
     case TRANSLATE:
         return pastrulow_translate(image, call->image_len, low, call->low_len, high, call->high_len, n[0], n[1], n[2], answer,
                                    call->answer_len);
@@ -57,6 +59,8 @@ uint64_t call_model(const struct call *call, struct lent *lent)
     switch (call->name) {
     case START:
         return model_start(image, call->image_len, n[0], answer, call->answer_len);
+    case START_WITH:
+        return model_start_with(image, call->image_len, n[0], n[1], answer, call->answer_len);
     case TRANSLATE:
         return model_translate(image, call->image_len, low, call->low_len, high, call->high_len, n[0], n[1], n[2], answer,
                                call->answer_len);

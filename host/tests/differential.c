@@ -55,7 +55,7 @@ static bool agree(const struct call *call)
     size_t at = lent_difference(&door_side, &model_side);
     calls++;
     pairs += from_model == 0 ? call_pairs(call) : 0;
-    if (call->name == START && from_door == 0)
+    if ((call->name == START || call->name == START_WITH) && from_door == 0)
         begun = 1;
     if (from_door == from_model && at == LENT_BYTES)
         return true;
@@ -144,7 +144,7 @@ static unsigned damage(struct random *random)
     }
 }
 
-/* One call on a damaged image, which is mended unless start has made a new one. */
+/* One call on a damaged image, which is mended unless a start has made a new one. */
 static bool damaged_call(struct random *random, const struct guest *guest)
 {
     uint64_t before[256];

@@ -114,6 +114,16 @@
     X(START_2_LENGTH, "start refused 2, length")                                      \
     X(START_2_WIDTH, "start refused 2, width")                                        \
     X(START_DONE, "start done")                                                       \
+    X(START_WITH_1, "start_with refused 1")                                           \
+    X(START_WITH_2_LENGTH, "start_with refused 2, length")                            \
+    X(START_WITH_2_WIDTH, "start_with refused 2, width")                              \
+    X(START_WITH_2_AND_7, "start_with refused 2, the flags refused 7 too")            \
+    X(START_WITH_7_VALUE, "start_with refused 7, value above 127")                    \
+    X(START_WITH_7_PG, "start_with refused 7, PCIDE without PG")                      \
+    X(START_WITH_DONE, "start_with done")                                             \
+    X(START_WITH_PG, "start_with done, PG on")                                        \
+    X(START_WITH_PCIDE, "start_with done, PCIDE on")                                  \
+    X(START_WITH_OVER_PCID, "start_with done, PCIDE on over the old CR3's low bits")  \
     X(TRANSLATE_1, "translate refused 1")                                             \
     X(TRANSLATE_2, "translate refused 2")                                             \
     X(TRANSLATE_3, "translate refused 3")                                             \

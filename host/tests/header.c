@@ -1,6 +1,6 @@
 /*
- * What the header says beside the calls: the version, a record's words, a pair's words, a fault's level, how a saved state is
- * loaded, the root in force, a journal's words.
+ * What the header says beside the calls: the version, a record's words, a pair's words, a fault's level, the root in force, a
+ * journal's words.
  */
 #include <string.h>
 
@@ -44,40 +44,13 @@ static void put_pairs(void)
             put_pair(bytes + at, number);
 }
 
-static void load_state(uint64_t width, uint64_t flags, uint64_t cr3)
-{
-    static const uint8_t zeros[PASTRULOW_IMAGE_BYTES - 24];
-    check("start", machine_start(&machine, width).kind, PASTRULOW_DONE);
-    check("CR3 write", machine_write_cr3(&machine, cr3 & ~PASTRULOW_CR3_PCID).kind, PASTRULOW_DONE);
-    check("mode write", machine_write_mode(&machine, flags).kind, PASTRULOW_DONE);
-    check("CR3 write again", machine_write_cr3(&machine, cr3).kind, PASTRULOW_DONE);
-    check("width", pastrulow_word(machine.image), width);
-    check("flags", pastrulow_word(machine.image + 8), flags);
-    check("CR3", pastrulow_word(machine.image + 16), cr3);
-    check("bytes after CR3", memcmp(machine.image + 24, zeros, sizeof zeros) != 0, 0);
-}
-
-/* Every width with every set of flags that calls lead to, and CR3 with and without low bits and its highest one. */
-static void load_states(void)
-{
-    for (uint64_t width = PASTRULOW_WIDTH_MIN; width <= PASTRULOW_WIDTH_MAX; width++)
-        for (uint64_t flags = 0; flags < 32; flags++) {
-            if ((flags & PASTRULOW_PCIDE) && !(flags & PASTRULOW_PG))
-                continue;
-            load_state(width, flags, 0);
-            load_state(width, flags, 0x1000);
-            load_state(width, flags, 0xfff);
-            load_state(width, flags, (UINT64_C(1) << width) - 1);
-        }
-}
-
 /* The tables grow by one level at a time, so each walk stops a level lower, at an entry that is not there. */
 static void fault_at_each_level(void)
 {
     static uint8_t low[5 * PASTRULOW_PAGE_BYTES];
     machine.low = low;
     machine.low_len = sizeof low;
-    load_state(40, PASTRULOW_PG, 0x1000);
+    check("load", machine_load(&machine, 40, PASTRULOW_PG, 0x1000).kind, PASTRULOW_DONE);
     for (uint64_t level = 4; level > 0; level--) {
         struct pastrulow_answer fault = machine_translate(&machine, PASTRULOW_READ, 0, 0);
         check("kind", fault.kind, PASTRULOW_FAULT);
@@ -171,7 +144,6 @@ int main(void)
     check("version", pastrulow_version(), PASTRULOW_VERSION);
     read_records();
     put_pairs();
-    load_states();
     fault_at_each_level();
     read_roots();
     read_journals();

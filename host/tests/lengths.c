@@ -14,6 +14,7 @@ static uint8_t pairs[PAIRS_ROOM], answers[ANSWERS_ROOM];
 static void no_answer(void)
 {
     check("start", pastrulow_start(image, sizeof image, 40, NULL, 0), 1);
+    check("start_with", pastrulow_start_with(image, sizeof image, 40, 0, NULL, 0), 1);
     check("translate", pastrulow_translate(image, sizeof image, NULL, 0, NULL, 0, 0, 0, 0, NULL, 0), 1);
     check("INVLPG", pastrulow_invlpg(image, sizeof image, 0, NULL, 0), 1);
     check("INVPCID", pastrulow_invpcid(image, sizeof image, 0, 0, 0, NULL, 0), 1);
@@ -24,6 +25,7 @@ static void no_answer(void)
 static void no_image(void)
 {
     check("start", pastrulow_start(NULL, 0, 40, answer, sizeof answer), 2);
+    check("start_with", pastrulow_start_with(NULL, 0, 40, 0, answer, sizeof answer), 2);
     check("translate", pastrulow_translate(NULL, 0, NULL, 0, NULL, 0, 0, 0, 0, answer, sizeof answer), 2);
     check("INVLPG", pastrulow_invlpg(NULL, 0, 0, answer, sizeof answer), 2);
     check("INVPCID", pastrulow_invpcid(NULL, 0, 0, 0, 0, answer, sizeof answer), 2);

@@ -22,6 +22,11 @@ struct pastrulow_answer machine_start(struct machine *machine, uint64_t width)
     return read_record(pastrulow_start(machine->image, sizeof machine->image, width, record, sizeof record));
 }
 
+struct pastrulow_answer machine_start_with(struct machine *machine, uint64_t width, uint64_t flags)
+{
+    return read_record(pastrulow_start_with(machine->image, sizeof machine->image, width, flags, record, sizeof record));
+}
+
 struct pastrulow_answer machine_translate(struct machine *machine, uint64_t kind, uint64_t address, uint64_t ac)
 {
     return read_record(pastrulow_translate(machine->image, sizeof machine->image, machine->low, machine->low_len,
@@ -46,6 +51,18 @@ struct pastrulow_answer machine_write_cr3(struct machine *machine, uint64_t valu
 struct pastrulow_answer machine_write_mode(struct machine *machine, uint64_t flags)
 {
     return read_record(pastrulow_write_mode(machine->image, sizeof machine->image, flags, record, sizeof record));
+}
+
+struct pastrulow_answer machine_load(struct machine *machine, uint64_t width, uint64_t flags, uint64_t cr3)
+{
+    struct pastrulow_answer answer = machine_start_with(machine, width, flags & ~(PASTRULOW_PG | PASTRULOW_PCIDE));
+    if (answer.kind == PASTRULOW_DONE)
+        answer = machine_write_cr3(machine, cr3 & ~PASTRULOW_CR3_PCID);
+    if (answer.kind == PASTRULOW_DONE)
+        answer = machine_write_mode(machine, flags);
+    if (answer.kind == PASTRULOW_DONE)
+        answer = machine_write_cr3(machine, cr3);
+    return answer;
 }
 
 uint8_t *machine_page(const struct machine *machine, uint64_t address)

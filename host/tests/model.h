@@ -1,5 +1,5 @@
 /*
- * The paper once more, in plain C: the translator's seven calls, written from documents 01 and 02 alone, slow and simple. The
+ * The paper once more, in plain C: the translator's eight calls, written from documents 01 and 02 alone, slow and simple. The
  * model counts what happens (events.h). The journal has a model of its own (model_journal.h).
  */
 #ifndef MODEL_H
@@ -9,6 +9,7 @@
 #include <stdint.h>
 
 uint64_t model_start(uint8_t *image, size_t image_len, uint64_t width, uint8_t *answer, size_t answer_len);
+uint64_t model_start_with(uint8_t *image, size_t image_len, uint64_t width, uint64_t flags, uint8_t *answer, size_t answer_len);
 uint64_t model_translate(uint8_t *image, size_t image_len, uint8_t *low, size_t low_len, uint8_t *high, size_t high_len,
                          uint64_t kind, uint64_t address, uint64_t ac, uint8_t *answer, size_t answer_len);
 uint64_t model_translate_many(uint8_t *image, size_t image_len, uint8_t *low, size_t low_len, uint8_t *high, size_t high_len,

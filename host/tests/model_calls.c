@@ -1,4 +1,4 @@
-/* The model: refusals, and the five calls that are lent no guest memory. */
+/* The model: refusals, and the six calls that are lent no guest memory. */
 #include "model.h"
 
 #include "model_parts.h"
@@ -54,17 +54,77 @@ bool bad_image(const uint8_t *image, size_t image_len)
     return flaws != 0;
 }
 
-uint64_t model_start(uint8_t *image, size_t image_len, uint64_t width, uint8_t *answer, size_t answer_len)
+/* Refusal 7: the first of its conditions that holds, in the order of its events. */
+enum mode_flaw { NO_SUCH_FLAG, PCIDE_WITHOUT_PG, PCIDE_OVER_PCID, NO_MODE_FLAW };
+
+static enum mode_flaw mode_flaw(const struct state *before, uint64_t flags)
+{
+    bool pg = bit(flags, 0), pcide = bit(flags, 3);
+    if (flags > 127)
+        return NO_SUCH_FLAG;
+    if (pcide && !pg)
+        return PCIDE_WITHOUT_PG;
+    if (pcide && !before->pcide && bits(before->cr3, 11, 0) != 0)
+        return PCIDE_OVER_PCID;
+    return NO_MODE_FLAW;
+}
+
+/* What a start's flags are judged from: flags 0 and CR3 0. */
+static const struct state all_zero;
+
+/* What the plain start and the one with flags count, each for itself. */
+struct start_events {
+    enum event answer, length, width, done;
+};
+
+static uint64_t start(uint8_t *image, size_t image_len, uint64_t width, uint64_t flags, uint8_t *answer, size_t answer_len,
+                      const struct start_events *events)
 {
     if (answer_len != 32)
-        return refused(answer, 1, EVENT_START_1);
+        return refused(answer, 1, events->answer);
     if (image_len != 2048)
-        return refused(answer, 2, EVENT_START_2_LENGTH);
+        return refused(answer, 2, events->length);
     if (!width_allowed(width))
-        return refused(answer, 2, EVENT_START_2_WIDTH);
+        return refused(answer, 2, events->width);
+    enum mode_flaw flaw = mode_flaw(&all_zero, flags);
+    if (flaw != NO_MODE_FLAW)
+        return refused(answer, 7, EVENT_START_WITH_7_VALUE + flaw);
     struct state state = {.width = width};
-    event(EVENT_START_DONE);
+    set_flags(&state, flags);
+    event(events->done);
     return done(image, &state, answer);
+}
+
+/* Write protect is on. */
+uint64_t model_start(uint8_t *image, size_t image_len, uint64_t width, uint8_t *answer, size_t answer_len)
+{
+    static const struct start_events events = {EVENT_START_1, EVENT_START_2_LENGTH, EVENT_START_2_WIDTH, EVENT_START_DONE};
+    return start(image, image_len, width, 2, answer, answer_len, &events);
+}
+
+/* Told is also whether a mode write of these flags would be refused for the CR3 that the image had. */
+static void count_start_with(uint64_t flags, uint64_t refusal, bool over_pcid)
+{
+    if (refusal == 2 && mode_flaw(&all_zero, flags) != NO_MODE_FLAW)
+        event(EVENT_START_WITH_2_AND_7);
+    if (refusal != 0)
+        return;
+    if (bit(flags, 0))
+        event(EVENT_START_WITH_PG);
+    if (bit(flags, 3))
+        event(EVENT_START_WITH_PCIDE);
+    if (over_pcid)
+        event(EVENT_START_WITH_OVER_PCID);
+}
+
+uint64_t model_start_with(uint8_t *image, size_t image_len, uint64_t width, uint64_t flags, uint8_t *answer, size_t answer_len)
+{
+    static const struct start_events events = {EVENT_START_WITH_1, EVENT_START_WITH_2_LENGTH, EVENT_START_WITH_2_WIDTH,
+                                               EVENT_START_WITH_DONE};
+    struct state before = image_len == 2048 ? decode(image) : all_zero;
+    uint64_t refusal = start(image, image_len, width, flags, answer, answer_len, &events);
+    count_start_with(flags, refusal, mode_flaw(&before, flags) == PCIDE_OVER_PCID);
+    return refusal;
 }
 
 static void count_invlpg(const struct state *state, unsigned number)
@@ -221,14 +281,11 @@ uint64_t model_write_mode(uint8_t *image, size_t image_len, uint64_t flags, uint
     if (bad_image(image, image_len))
         return refused(answer, 2, EVENT_MODE_2);
     struct state before = decode(image);
+    enum mode_flaw flaw = mode_flaw(&before, flags);
+    if (flaw != NO_MODE_FLAW)
+        return refused(answer, 7, EVENT_MODE_7_VALUE + flaw);
     struct state after = before;
     set_flags(&after, flags);
-    if (flags > 127)
-        return refused(answer, 7, EVENT_MODE_7_VALUE);
-    if (after.pcide && !after.pg)
-        return refused(answer, 7, EVENT_MODE_7_PG);
-    if (after.pcide && !before.pcide && bits(before.cr3, 11, 0) != 0)
-        return refused(answer, 7, EVENT_MODE_7_CR3);
     if (after.pg != before.pg || after.pge != before.pge || after.pcide != before.pcide || after.nxe != before.nxe)
         drop_all(&after);
     else

@@ -97,7 +97,7 @@ enum { ADDRESS, FAULT, REFUSED, DONE };
 void put_answer(uint8_t *answer, uint64_t kind, uint64_t value, uint64_t size, uint64_t read);
 uint64_t refused(uint8_t *answer, uint64_t number, enum event which);
 unsigned image_flaws(const uint8_t *image, size_t image_len); /* what is wrong with it: bit i for event IMAGE_LENGTH + i */
-bool bad_image(const uint8_t *image, size_t image_len);       /* refusal 2 for every call but start */
+bool bad_image(const uint8_t *image, size_t image_len);       /* refusal 2 for every call but the starts */
 
 /* These are told what a translation does, and count where an earlier pair of the same batch comes in; else nothing. */
 void batch_hits(unsigned slot);

@@ -191,7 +191,7 @@ static void random_step(struct random *random, const struct guest *guest)
         return;
     }
     struct call call = call_make(random, guest);
-    while (call.name == TRANSLATE_MANY) /* which a trace has no line for */
+    while (call.name == TRANSLATE_MANY || call.name == START_WITH) /* which a trace has no lines for */
         call = call_make(random, guest);
     if (call.name == START && call.numbers[0] == guest->width)
         begun = 1;

@@ -84,8 +84,8 @@ static struct pastrulow_answer perform(const struct order *order)
 {
     const uint64_t *n = order->numbers;
     switch (order->letter) {
-    case 'S':
-        CALL(start)(image, sizeof image, n[0], record, sizeof record);
+    case 'S': /* with no flag on */
+        CALL(start_with)(image, sizeof image, n[0], 0, record, sizeof record);
         break;
     case 'M':
         CALL(write_mode)(image, sizeof image, n[0], record, sizeof record);

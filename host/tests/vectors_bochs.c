@@ -38,9 +38,7 @@ static void make(const struct single *single)
     made++;
     newer_flags += single->flags >= PASTRULOW_SMEP;
     ac_set += single->ac != 0;
-    if (machine_start(&machine, single->width).kind != PASTRULOW_DONE ||
-        machine_write_mode(&machine, single->flags).kind != PASTRULOW_DONE ||
-        machine_write_cr3(&machine, single->cr3).kind != PASTRULOW_DONE) {
+    if (machine_load(&machine, single->width, single->flags, single->cr3).kind != PASTRULOW_DONE) {
         wrong(single, "setting up was refused", single->result);
         return;
     }

@@ -181,9 +181,7 @@ static void take_root(const char *line)
     uint64_t cr3;
     if (sscanf(line, "root cr3 %" SCNx64, &cr3) != 1)
         bad_line(line);
-    must_be_done(machine_start(&machine, width), "start");
-    must_be_done(machine_write_mode(&machine, flags), "mode write");
-    must_be_done(machine_write_cr3(&machine, cr3), "CR3 write");
+    must_be_done(machine_load(&machine, width, flags, cr3), "loading the root's state");
     roots++;
 }
 

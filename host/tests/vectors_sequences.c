@@ -71,7 +71,7 @@ static void operate(const char *line)
         bad_line(line);
     switch (line[0]) {
     case 'S':
-        answer = machine_start(&machine, one);
+        answer = machine_start_with(&machine, one, 0);
         break;
     case 'M':
         answer = machine_write_mode(&machine, one);

@@ -11,7 +11,7 @@ use borrow.Author.Tests.{lt-ltb, le-ltb}
 use Rattle.rules.specs.Memory.{both}
 use Rattle.rules.specs.Bits.{AreWords, wordAt, wordsOf}
 use Rattle.rules.specs.Answers.{Words, recordBytes}
-use Rattle.rules.specs.Refusals.{start, translate, invlpg, invpcid, writeCr3, writeMode}
+use Rattle.rules.specs.Refusals.{startWith, translate, invlpg, invpcid, writeCr3, writeMode}
 use Rattle.rules.proofs.BoolLaws.{either}
 use Rattle.rules.proofs.WordLaws.{words-all, word-at}
 use Rattle.rules.proofs.AnswerLaws.{listed, answer-fits}
@@ -33,7 +33,7 @@ small-fits k h (suc (suc (suc zero))) = omega arith
 small-fits k h (suc (suc (suc (suc i)))) = omega arith
 
 pub given-fits : (o : Order) (b : List ℕ) (mem : Low) → AreWords (listed (does o b mem .answer))
-given-fits (Start w) b mem = answer-fits b (both mem []) (start w)
+given-fits (Start w) b mem = answer-fits b (both mem []) (startWith w 0)
 given-fits (Mode v) b mem = answer-fits b (both mem []) (writeMode v)
 given-fits (Cr3 v) b mem = answer-fits b (both mem []) (writeCr3 v)
 given-fits (Invlpg a) b mem = answer-fits b (both mem []) (invlpg a)

@@ -9,7 +9,7 @@ use lib.Dec.{eqb, leb}
 use borrow.Author.Tests.{le-leb, lt-leb, leb-true, leb-false}
 use Rattle.rules.specs.Bits.{wordPut}
 use Rattle.rules.specs.Answers.{numbers, recordBytes}
-use Rattle.rules.specs.Refusals.{Request, start, translate, invlpg, invpcid, writeCr3, writeMode}
+use Rattle.rules.specs.Refusals.{Request, startWith, translate, invlpg, invpcid, writeCr3, writeMode}
 use Rattle.rules.specs.Memory.{both}
 use Rattle.rules.specs.Calls.{Outcome, Left, call, written}
 use Rattle.rules.specs.declared.Answer.{Answer}
@@ -55,8 +55,8 @@ called q b b′ mem a r′ n l d =
     }
 
 module _ (o : Order) (b b′ : List ℕ) (mem : Low) (a : Answer) (r′ : List ℕ) (n : ℕ) where
-  pub started : (w : ℕ) → o ≡ Start w → Leaves (start w) b b′ a → Recorded a r′ n → Gives (does o b mem) r′ b′ mem
-  started w e l d = rw e (called (start w) b b′ mem a r′ n l d)
+  pub started : (w : ℕ) → o ≡ Start w → Leaves (startWith w 0) b b′ a → Recorded a r′ n → Gives (does o b mem) r′ b′ mem
+  started w e l d = rw e (called (startWith w 0) b b′ mem a r′ n l d)
 
   pub mode-written : (v : ℕ) → o ≡ Mode v → Leaves (writeMode v) b b′ a → Recorded a r′ n → Gives (does o b mem) r′ b′ mem
   mode-written v e l d = rw e (called (writeMode v) b b′ mem a r′ n l d)

@@ -44,7 +44,8 @@ fn perform(order: Order, image: &mut [u8], mem: &mut [u8], answer: &mut [u8])
 {
     match order {
         Order::Start { width } => {
-            records::write_record(answer, calls::start(image, width));
+            // A trace starts with no flag on.
+            records::write_record(answer, calls::start_with(image, width, 0));
         }
         Order::Mode { flags } => {
             records::write_record(answer, calls::write_mode(image, flags));

@@ -13,4 +13,4 @@ pub record Passes (q : Request) (r r′ b b′ : List ℕ) (n : ℕ) : Type 0 wh
 
 -- the version of the calls, raised whenever the parameters or the meaning of one change
 abbrev pub version : ℕ
-version = 4
+version = 5

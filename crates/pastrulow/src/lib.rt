@@ -2,7 +2,7 @@
 // number, or 0; where the answer bytes are not 32, it returns 1 and touches nothing. A call for many answers in 32 bytes a pair, and returns 10 or 0.
 ghost use mathlib.Core.Path.{_≡_};
 ghost use Rattle.rules.specs.Memory.{both};
-ghost use Rattle.rules.specs.Refusals.{start, translate, invlpg, invpcid, writeCr3, writeMode};
+ghost use Rattle.rules.specs.Refusals.{startWith, start, translate, invlpg, invpcid, writeCr3, writeMode};
 ghost use Rattle.journal.specs.Calls.{Clears, Reports};
 ghost use Rattle.direct.specs.Contract.{TranslatesInto};
 ghost use Rattle.many.specs.Contract.{TranslatesMany};
@@ -13,7 +13,7 @@ use translator::calls;
 const NO_RECORD: u64 = 1;
 
 // The header has the same number, for a host to compare.
-const VERSION: u64 = 4;
+const VERSION: u64 = 5;
 
 // The width is the physical width M, 36 to 52.
 #[no_mangle]
@@ -24,6 +24,22 @@ pub extern "C" fn pastrulow_start(image: &mut [u8], width: u64, answer: &mut [u8
         return NO_RECORD;
     }
     records::write_record(answer, calls::start(image, width))
+}
+
+// The flags are those of a mode write.
+#[no_mangle]
+pub extern "C" fn pastrulow_start_with(
+    image: &mut [u8],
+    width: u64,
+    flags: u64,
+    answer: &mut [u8],
+) -> u64
+    ensures { λ r. ⌜ Passes (startWith width flags) (now (answer .entry)) (now (answer .exit)) (now (image .entry)) (now (image .exit)) r ⌝ }
+{
+    if answer.len() != records::LENGTH {
+        return NO_RECORD;
+    }
+    records::write_record(answer, calls::start_with(image, width, flags))
 }
 
 // The kind is 0 for a read, 1 a write, 2 a fetch, by the supervisor; 3, 4, 5 for the same by the user. AC is set by any number but 0.

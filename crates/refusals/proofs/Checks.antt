@@ -10,9 +10,9 @@ use lib.Seq.{take-all}
 use lib.Dec.{eqb, leb, ltb}
 use borrow.Author.Tests.{eq-eqb, ne-eqb, lt-ltb, le-ltb, le-leb, lt-leb}
 use Rattle.rules.specs.Bits.{wordsOf, isOn, part, wordAt}
-use Rattle.rules.specs.Image.{decode, control, pg}
+use Rattle.rules.specs.Image.{Image, started, decode, control, pg}
 use Rattle.rules.specs.Memory.{Memory, empty}
-use Rattle.rules.specs.Refusals.{start, translate, canonical, isLong, isOutside, allZero, noFlags, isUnfit, noAddress, noCr3, noMode, noInvpcid, refusal}
+use Rattle.rules.specs.Refusals.{startWith, translate, writeMode, canonical, isLong, isOutside, allZero, noFlags, isUnfit, noAddress, noCr3, noMode, noInvpcid, refusal}
 use Rattle.rules.specs.declared.Control.{Control}
 use Rattle.rules.proofs.BoolLaws.{or-left, or-right}
 use Rattle.rules.proofs.WordLaws.{zero-tail}
@@ -44,6 +44,9 @@ module _ (b : List ℕ) (o : Bool) (e : o ≡ isUnfit b) (h : o ≡ false) where
 
   pub flags-in : 8 + 8 ≤ length b
   flags-in = omega (arith, fit-long)
+
+  pub cr3-in : 16 + 8 ≤ length b
+  cr3-in = omega (arith, fit-long)
 
   pub fit-narrow : decode b .width ≤ 52
   fit-narrow = fit b (sym e ∙ h) .narrow
@@ -83,16 +86,16 @@ pub paging-is : (b : List ℕ) (f : ℕ) (p : Bool) → f ≡ wordAt b 8 → p �
 paging-is b f p hf hp = hp ∙ ap (isOn 0) (hf ∙ sym (flags-at b))
 
 -- over the words that were read
-module _ (b : List ℕ) (f : ℕ) (hf : f ≡ wordAt b 8) where
-  pub no-cr3-is : (w v n : ℕ) (p q : Bool) → w ≡ wordAt b 0 → n ≡ part 63 w v → p ≡ isOn 3 f → q ≡ isOn 63 v
-      → (not (eqb n 0) || (q && not p)) ≡ noCr3 (decode b) v
-  no-cr3-is w v n p q hw hn hp hq = rw (flags-at b, width-at b, ← hf, ← hw, ← hp, ← hq, ← hn)
+pub no-cr3-is : (b : List ℕ) (f w v n : ℕ) (p q : Bool) → f ≡ wordAt b 8 → w ≡ wordAt b 0 → n ≡ part 63 w v → p ≡ isOn 3 f → q ≡ isOn 63 v
+    → (not (eqb n 0) || (q && not p)) ≡ noCr3 (decode b) v
+no-cr3-is b f w v n p q hf hw hn hp hq = rw (flags-at b, width-at b, ← hf, ← hw, ← hp, ← hq, ← hn)
 
-  pub no-mode-is : (r v n : ℕ) (p q g o : Bool) → r ≡ wordAt b 16 → n ≡ r % 4096 → p ≡ isOn 3 f → q ≡ isOn 3 v → g ≡ isOn 0 v → o ≡ noFlags v
-      → (o || (q && not g) || (q && not p && not (eqb n 0))) ≡ noMode (decode b) v
-  no-mode-is r v n p q g o hr hn hp hq hg ho =
-      let e : r / 1 % 4096 ≡ n = omega arith in
-      rw (flags-at b, cr3-at b, ← hf, ← hr, ← hp, ← hq, ← hg, ← ho, e)
+-- from any flags and CR3
+pub no-mode-is : (s : Image) (f r v n : ℕ) (p q g o : Bool) → f ≡ s .flags → r ≡ s .cr3 → n ≡ r % 4096 → p ≡ isOn 3 f → q ≡ isOn 3 v → g ≡ isOn 0 v
+    → o ≡ noFlags v → (o || (q && not g) || (q && not p && not (eqb n 0))) ≡ noMode s v
+no-mode-is s f r v n p q g o hf hr hn hp hq hg ho =
+    let e : r / 1 % 4096 ≡ n = omega arith in
+    rw (← hf, ← hr, ← hp, ← hq, ← hg, ← ho, e)
 
 -- INVPCID: a type and a PCID that there are; then only the first two types ask more
 module _ (b : List ℕ) (t k a : ℕ) where
@@ -111,14 +114,21 @@ pub width-low : (b : List ℕ) (w : ℕ) → decode b .width ≤ 52 → w ≡ wo
 width-low b w h e = omega (arith, width-at b)
 
 -- ---- the lowest that applies
-pub long-enough : (b : List ℕ) (w : ℕ) → (length b ≡ 2048 → ⊥) → 2 ≡ refusal b empty (start w)
-long-enough b w h = rw (ne-eqb (length b) 2048 h)
+module _ (b : List ℕ) (w f : ℕ) where
+  pub long-enough : (length b ≡ 2048 → ⊥) → 2 ≡ refusal b empty (startWith w f)
+  long-enough h = rw (ne-eqb (length b) 2048 h)
 
-pub start-outside : (b : List ℕ) (w : ℕ) (o : Bool) → length b ≡ 2048 → o ≡ isOutside w → o ≡ true → 2 ≡ refusal b empty (start w)
-start-outside b w o h e t = rw (eq-eqb (length b) 2048 h, ← e, t)
+  module _ (o : Bool) (long : length b ≡ 2048) (width : o ≡ isOutside w) where
+    pub start-outside : o ≡ true → 2 ≡ refusal b empty (startWith w f)
+    start-outside t = rw (eq-eqb (length b) 2048 long, ← width, t)
 
-pub start-fits : (b : List ℕ) (w : ℕ) (o : Bool) → length b ≡ 2048 → o ≡ isOutside w → o ≡ false → 0 ≡ refusal b empty (start w)
-start-fits b w o h e t = rw (eq-eqb (length b) 2048 h, ← e, t)
+    -- judged from flags 0 and CR3 0
+    module _ (t : o ≡ false) (m : Bool) (mode : (s : Image) → 0 ≡ s .flags → 0 ≡ s .cr3 → m ≡ noMode s f) where
+      pub start-moded : m ≡ true → 7 ≡ refusal b empty (startWith w f)
+      start-moded u = rw (eq-eqb (length b) 2048 long, ← width, t, ← mode (started w 0) refl refl, u)
+
+      pub start-fits : m ≡ false → 0 ≡ refusal b empty (startWith w f)
+      start-fits u = rw (eq-eqb (length b) 2048 long, ← width, t, ← mode (started w 0) refl refl, u)
 
 pub at-first : (u o : Bool) (x : ℕ) → o ≡ u → o ≡ true → _≡_ {A = ℕ} 2 (cond u 2 x)
 at-first u o x e t = rw (← e, t)
@@ -128,6 +138,18 @@ at-second u v o p n x e t g y = rw (← e, t, ← g, y)
 
 pub at-neither : (u v o p : Bool) (n : ℕ) → o ≡ u → o ≡ false → p ≡ v → p ≡ false → _≡_ {A = ℕ} 0 (cond u 2 (cond v n 0))
 at-neither u v o p n e t g y = rw (← e, t, ← g, y)
+
+-- a mode write is judged from the words that were read
+module _ (b : List ℕ) (f r v : ℕ) (o m : Bool) (unfit : o ≡ isUnfit b) (t : o ≡ false) (hf : f ≡ wordAt b 8) (hr : r ≡ wordAt b 16)
+    (mode : (s : Image) → f ≡ s .flags → r ≡ s .cr3 → m ≡ noMode s v) where
+  judged : m ≡ noMode (decode b) v
+  judged = mode (decode b) (hf ∙ sym (flags-at b)) (hr ∙ sym (cr3-at b))
+
+  pub mode-refused : m ≡ true → 7 ≡ refusal b empty (writeMode v)
+  mode-refused = at-second (isUnfit b) (noMode (decode b) v) o m 7 0 unfit t judged
+
+  pub mode-taken : m ≡ false → 0 ≡ refusal b empty (writeMode v)
+  mode-taken = at-neither (isUnfit b) (noMode (decode b) v) o m 7 unfit t judged
 
 pub at-none : (u o : Bool) → o ≡ u → o ≡ false → _≡_ {A = ℕ} 0 (cond u 2 0)
 at-none u o e t = rw (← e, t)

@@ -5,9 +5,9 @@ ghost use mathlib.Core.Bool.{false, cond};
 ghost use mathlib.Core.List.{List};
 ghost use lib.ListN.{length};
 ghost use lib.Dec.{ltb};
-ghost use Rattle.rules.specs.Image.{decode, pg};
+ghost use Rattle.rules.specs.Image.{Image, decode, pg};
 ghost use Rattle.rules.specs.Memory.{Memory, both, empty, noLengths};
-ghost use Rattle.rules.specs.Refusals.{start, translate, invlpg, invpcid, writeCr3, writeMode, canonical, isOutside, noFlags, isUnfit, noAddress, noCr3, noMode, noInvpcid, refusal};
+ghost use Rattle.rules.specs.Refusals.{startWith, translate, invlpg, invpcid, writeCr3, writeMode, canonical, isOutside, noFlags, isUnfit, noAddress, noCr3, noMode, noInvpcid, refusal};
 ghost use Rattle.rules.specs.declared.Control.{Control};
 ghost use Rattle.refusals.specs.Asked.{Asked};
 
@@ -71,12 +71,12 @@ fn no_cr3(image: &[u8], value: u64) -> bool
     !(beyond == 0) | (words::is_on(63, value) & !pcide)
 }
 
-fn no_mode(image: &[u8], value: u64) -> bool
-    requires { ⌜ length (now image) ≡ 2048 ⌝ }
-    ensures { λ r. ⌜ r ≡ noMode (decode (now (image .entry))) value ⌝ }
+// From these flags and this CR3.
+fn no_mode(flags: u64, cr3: u64, value: u64) -> bool
+    ensures { λ r. ⌜ ((s : Image) → flags ≡ s .flags → cr3 ≡ s .cr3 → r ≡ noMode s value) ⌝ }
 {
-    let pcide = words::is_on(3, words::read_word(image, 8));
-    let named = words::read_word(image, 16) % 4096;
+    let pcide = words::is_on(3, flags);
+    let named = cr3 % 4096;
     let wanted = words::is_on(3, value);
     no_flags(value) | (wanted & !words::is_on(0, value)) | (wanted & !pcide & !(named == 0))
 }
@@ -96,14 +96,18 @@ fn no_invpcid(image: &[u8], kind: u64, pcid: u64, a: u64) -> bool
     ((kind == 0) & !is_canonical(a)) | (!pcide & !(pcid == 0))
 }
 
-pub fn start_refusal(image: &[u8], width: u64) -> u64
-    ensures { λ r. ⌜ r ≡ refusal (now (image .entry)) empty (start width) ⌝ }
+// The flags are judged as those of a mode write, from flags 0 and CR3 0: what the image held is not read.
+pub fn start_refusal(image: &[u8], width: u64, flags: u64) -> u64
+    ensures { λ r. ⌜ r ≡ refusal (now (image .entry)) empty (startWith width flags) ⌝ }
 {
     if image.len() != 2048 {
         return 2;
     }
     if is_outside(width) {
         return 2;
+    }
+    if no_mode(0, 0, flags) {
+        return 7;
     }
     0
 }
@@ -188,7 +192,9 @@ pub fn mode_refusal(image: &[u8], value: u64) -> u64
     if is_unfit(image) {
         return 2;
     }
-    if no_mode(image, value) {
+    let flags = words::read_word(image, 8);
+    let cr3 = words::read_word(image, 16);
+    if no_mode(flags, cr3, value) {
         return 7;
     }
     0

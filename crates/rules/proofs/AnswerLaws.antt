@@ -16,7 +16,7 @@ use Rattle.rules.specs.Entries.{everything}
 use Rattle.rules.specs.Walk.{Leaf, reached, reachIn, top, judged}
 use Rattle.rules.specs.Buffer.{hitAddress}
 use Rattle.rules.specs.Answers.{Words, numbers, recordBytes, wasPresent, wasReserved, tellsFetch, code, answerOf}
-use Rattle.rules.specs.Refusals.{Request, start, translate, invlpg, invpcid, writeCr3, writeMode, Refusal, lowest, refusals, refusal, noAddress}
+use Rattle.rules.specs.Refusals.{Request, startWith, translate, invlpg, invpcid, writeCr3, writeMode, Refusal, lowest, refusals, refusal, noAddress}
 use Rattle.rules.specs.Calls.{After, accessOf, accepted, Outcome, Left, call, door}
 use Rattle.rules.specs.declared.Size.{Size}
 use Rattle.rules.specs.declared.Control.{Control}
@@ -107,7 +107,7 @@ lowest-fits [] h = omega arith
 lowest-fits (r ∷ rs) h = either (λ (n : ℕ). n < 2 ^ 64) (r .applies) (r .number) (lowest rs) (λ e. h .0) (λ e. lowest-fits rs (h .1))
 
 refusals-fit : (b : List ℕ) (mem : Memory) (q : Request) → AllFit (refusals b mem q)
-refusals-fit b mem (start w) = omega arith
+refusals-fit b mem (startWith w f) = omega arith
 refusals-fit b mem (translate k a ac) = omega arith
 refusals-fit b mem (invlpg a) = omega arith
 refusals-fit b mem (invpcid t p a) = omega arith
@@ -115,7 +115,7 @@ refusals-fit b mem (writeCr3 v) = omega arith
 refusals-fit b mem (writeMode v) = omega arith
 
 accepted-fits : (b : List ℕ) (mem : Memory) (q : Request) → refusal b mem q ≡ 0 → AreFit (accepted (decode b) mem q .answer)
-accepted-fits b mem (start w) ok = done-fits
+accepted-fits b mem (startWith w f) ok = done-fits
 accepted-fits b mem (translate k a ac) ok =
     let g = given b mem (translate k a ac) ok in
     way-fits (decode b) mem (accessOf k ac) a (g .0 .narrow) (g .3) (way (decode b) mem (accessOf k ac) a)

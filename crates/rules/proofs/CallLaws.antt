@@ -8,7 +8,7 @@ use lib.ListN.{length}
 use borrow.Author.Tests.{eq-eqb, ne-eqb}
 use Rattle.rules.specs.Memory.{Memory}
 use Rattle.rules.specs.Image.{decode}
-use Rattle.rules.specs.Refusals.{Request, start, translate, invlpg, invpcid, writeCr3, writeMode, Refusal, lowest, refusals, refusal}
+use Rattle.rules.specs.Refusals.{Request, startWith, translate, invlpg, invpcid, writeCr3, writeMode, Refusal, lowest, refusals, refusal}
 use Rattle.rules.specs.Calls.{accepted, Outcome, encoded, call, byNumber, Left, written, door}
 use Rattle.rules.specs.declared.Answer.the-variants.{Refused}
 use Rattle.rules.proofs.BoolLaws.{either}
@@ -46,7 +46,7 @@ Rising [] = Unit {0}
 Rising (r ∷ rs) = Above (r .number) rs × Rising rs
 
 pub rising : (b : List ℕ) (mem : Memory) (q : Request) → Rising (refusals b mem q)
-rising b mem (start w) = omega arith
+rising b mem (startWith w f) = omega arith
 rising b mem (translate k a ac) = omega arith
 rising b mem (invlpg a) = omega arith
 rising b mem (invpcid t p a) = omega arith

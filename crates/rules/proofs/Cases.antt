@@ -31,10 +31,11 @@ named Done = []
 abbrev pub told : Answer → List ℕ
 told r = numbers r .kind ∷ numbers r .value ∷ numbers r .size ∷ numbers r .read ∷ named r
 
--- ---- what is looked at after the calls: a word of memory, the victim numbers, or which slots are not two zero words
+-- ---- what is looked at after the calls: a word of memory, the flags, the victim numbers, or which slots are not two zero words
 infix 70 _holds_
 pub data Look : Type 0 where
   _holds_ : ℕ → ℕ → Look
+  flags : ℕ → Look
   victims : ℕ → Look
   keeps : List ℕ → Look
 
@@ -49,12 +50,14 @@ kept (suc n) f found = kept n f (cond (isNone (f n)) found (n ∷ found))
 abbrev pub seen : List ℕ → Memory → List Look → List ℕ
 seen b mem [] = []
 seen b mem (a holds w ∷ ls) = entryAt mem a ∷ seen b mem ls
+seen b mem (flags f ∷ ls) = decode b .flags ∷ seen b mem ls
 seen b mem (victims v ∷ ls) = decode b .victims ∷ seen b mem ls
 seen b mem (keeps is ∷ ls) = kept 100 (decode b .slots) [] ++ seen b mem ls
 
 abbrev pub hoped : List Look → List ℕ
 hoped [] = []
 hoped (a holds w ∷ ls) = w ∷ hoped ls
+hoped (flags f ∷ ls) = f ∷ hoped ls
 hoped (victims v ∷ ls) = v ∷ hoped ls
 hoped (keeps is ∷ ls) = is ++ hoped ls
 

@@ -33,16 +33,16 @@ fit-passes b f =
     )
 
 -- ---- its named words, and those of the image after a translate
-record Ranged (s : Image) : Type 0 where
-  wide : 36 ≤ s .width
-  narrow : s .width ≤ 52
-  flags : s .flags < 2 ^ 7
-  victims : s .victims < 2 ^ 50
+pub record Ranged (s : Image) : Type 0 where
+  pub wide : 36 ≤ s .width
+  pub narrow : s .width ≤ 52
+  pub flags : s .flags < 2 ^ 7
+  pub victims : s .victims < 2 ^ 50
 
 fit-ranged : (b : List ℕ) → Fit b → Ranged (decode b)
 fit-ranged b f = record { wide = f .wide; narrow = f .narrow; flags = f .flags; victims = f .victims }
 
-fit-encoded : (s : Image) → Sound s → Ranged s → Fit (encode s)
+pub fit-encoded : (s : Image) → Sound s → Ranged s → Fit (encode s)
 fit-encoded s q r =
     let d : decode (encode s) ≡ s = decode-encode s q in
     record {

@@ -12,7 +12,7 @@ use Rattle.rules.specs.Image.{Image, decode, root, control}
 use Rattle.rules.specs.Memory.{Memory, entryAt, added}
 use Rattle.rules.specs.Entries.{Entry, absent, bad, page, table, says, next, also, allows, everything}
 use Rattle.rules.specs.Walk.{top, index, place, End, reached, stuck, Reach, step, reach, accessed, dirtied, marked, reachIn, walk}
-use Rattle.rules.specs.Refusals.{Request, start, translate, invlpg, invpcid, writeCr3, writeMode}
+use Rattle.rules.specs.Refusals.{Request, startWith, translate, invlpg, invpcid, writeCr3, writeMode}
 use Rattle.rules.specs.Calls.{After, accessOf, accepted, Outcome, call}
 use Rattle.rules.specs.declared.Control.{Control}
 use Rattle.rules.specs.declared.Access.{Access}
@@ -138,7 +138,7 @@ way-grows s mem k a (answered on i e g) = grown-none mem
 way-grows s mem k a (walks on un) = walk-grows (control s) k a mem (root-eight s)
 
 accepted-grows : (s : Image) (mem : Memory) (q : Request) → Grown mem (accepted s mem q .memory)
-accepted-grows s mem (start w) = grown-none mem
+accepted-grows s mem (startWith w f) = grown-none mem
 accepted-grows s mem (translate k a ac) = way-grows s mem (accessOf k ac) a (way s mem (accessOf k ac) a)
 accepted-grows s mem (invlpg a) = grown-none mem
 accepted-grows s mem (invpcid t p a) = grown-none mem

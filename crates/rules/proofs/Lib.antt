@@ -19,10 +19,12 @@ pub mod CallWays
 pub mod AnswerLaws
 pub mod SoundLaws
 pub mod FitLaws
+pub mod StartLaws
 pub mod ManyLaws
 pub mod Cases
 pub mod TrialCases
 pub mod OwnCases
 pub mod UserPageCases
+pub mod StartCases
 pub mod HoleCases
 pub mod ManyCases

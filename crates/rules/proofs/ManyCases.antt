@@ -55,7 +55,7 @@ abbrev unfit : List ℕ
 unfit = replicate 7 0xA5
 
 abbrev ready : Image
-ready = withFlags 23 (withCr3 0x1000 (started 40))
+ready = withFlags 23 (withCr3 0x1000 (started 40 0))
 
 abbrev ragged : Memory
 ragged = both (replicate 3 0xA5) (replicate 5 0xA5)

@@ -163,7 +163,7 @@ drops =
     ∷ []
 
 -- ---- refusals, each at its edge, and the lowest that applies
-abbrev on : List ℕ → Memory → List Call → Case
+abbrev pub on : List ℕ → Memory → List Call → Case
 on image memory cs = record { image = image; memory = memory; calls = cs; endings = [] }
 
 abbrev refusals : List Case
@@ -171,15 +171,15 @@ refusals =
     on (replicate 2047 0) empty (start 40 gives Refused 2 ∷ [])
     ∷ on (replicate 2049 0) empty (start 40 gives Refused 2 ∷ invlpg 0 gives Refused 2 ∷ [])
     ∷ on blank empty (start 35 gives Refused 2 ∷ start 36 gives Done ∷ start 52 gives Done ∷ start 53 gives Refused 2 ∷ [])
-    ∷ on (encode (started 35)) empty (invlpg 0 gives Refused 2 ∷ [])
-    ∷ on (encode (started 53)) empty (translate 6 0 0 gives Refused 2 ∷ [])
-    ∷ on (encode (withFlags 128 (started 40))) empty (writeCr3 0 gives Refused 2 ∷ [])
-    ∷ on (encode (withFlags 127 (started 40))) empty (writeCr3 0 gives Done ∷ [])
-    ∷ on (encode (withVictims (2 ^ 50) (started 40))) empty (writeMode 0 gives Refused 2 ∷ [])
-    ∷ on (encode (withVictims (2 ^ 50 - 1) (started 40))) empty (writeMode 0 gives Done ∷ [])
-    ∷ on (set (encode (started 40)) 1631 1) empty (invpcid 2 0 0 gives Done ∷ [])
-    ∷ on (set (encode (started 40)) 1632 1) empty (invpcid 2 0 0 gives Refused 2 ∷ [])
-    ∷ on (set (encode (started 40)) 2047 1) empty (invpcid 4 0 0 gives Refused 2 ∷ [])
+    ∷ on (encode (started 35 0)) empty (invlpg 0 gives Refused 2 ∷ [])
+    ∷ on (encode (started 53 0)) empty (translate 6 0 0 gives Refused 2 ∷ [])
+    ∷ on (encode (withFlags 128 (started 40 0))) empty (writeCr3 0 gives Refused 2 ∷ [])
+    ∷ on (encode (withFlags 127 (started 40 0))) empty (writeCr3 0 gives Done ∷ [])
+    ∷ on (encode (withVictims (2 ^ 50) (started 40 0))) empty (writeMode 0 gives Refused 2 ∷ [])
+    ∷ on (encode (withVictims (2 ^ 50 - 1) (started 40 0))) empty (writeMode 0 gives Done ∷ [])
+    ∷ on (set (encode (started 40 0)) 1631 1) empty (invpcid 2 0 0 gives Done ∷ [])
+    ∷ on (set (encode (started 40 0)) 1632 1) empty (invpcid 2 0 0 gives Refused 2 ∷ [])
+    ∷ on (set (encode (started 40 0)) 2047 1) empty (invpcid 4 0 0 gives Refused 2 ∷ [])
     ∷ on blank empty
     (start 40 gives Done ∷ translate 5 0 0 gives Address 0 0 0 ∷ translate 6 0 0 gives Refused 3
     ∷ translate 0 0xFFFFFFFF 0 gives Address 0xFFFFFFFF 0 0 ∷ translate 0 0x100000000 0 gives Refused 5 ∷ [])

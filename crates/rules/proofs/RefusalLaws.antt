@@ -8,9 +8,9 @@ use lib.ListN.{length, drop}
 use lib.Dec.{leb, ltb}
 use borrow.Author.Tests.{eqb-true, ltb-false, leb-false, not-false}
 use Rattle.rules.specs.Bits.{AreBytes, wordsOf}
-use Rattle.rules.specs.Image.{decode, IsImage}
+use Rattle.rules.specs.Image.{Image, started, decode, IsImage}
 use Rattle.rules.specs.Memory.{Memory}
-use Rattle.rules.specs.Refusals.{Request, start, translate, invlpg, invpcid, writeCr3, writeMode, Refusal, lowest, isLong, isOutside, allZero, noFlags, isUnfit, noAddress, refusals, refusal}
+use Rattle.rules.specs.Refusals.{Request, startWith, translate, invlpg, invpcid, writeCr3, writeMode, Refusal, lowest, isLong, isOutside, allZero, noFlags, isUnfit, noAddress, noCr3, noMode, refusals, refusal}
 use Rattle.rules.proofs.BoolLaws.{or-left, or-right}
 use Rattle.rules.proofs.MemoryLaws.{Lengths, lengths}
 use Rattle.rules.proofs.PlaceLaws.{image-of}
@@ -64,16 +64,23 @@ passed (r ∷ rs) above h = go (r .applies) refl h (passed rs (above .1))
     go false e h ih = (e, ih h)
 
 -- ---- each call
+-- a mode that there is has no flag that there is not
+pub mode-flags : (s : Image) (v : ℕ) → noMode s v ≡ false → v < 2 ^ 7
+mode-flags s v h = leb-false (2 ^ 7) v (or-left (noFlags v) _ (or-left _ _ h))
+
 abbrev pub Given : List ℕ → Memory → Request → Type 0
-Given b mem (start w) = (length b ≡ 2048) × (36 ≤ w) × (w ≤ 52)
+Given b mem (startWith w f) = (length b ≡ 2048) × (36 ≤ w) × (w ≤ 52) × (noMode (started w 0) f ≡ false)
 Given b mem (translate k a ac) = Fit b × (k ≤ 5) × Lengths mem × (noAddress (decode b) a ≡ false)
 Given b mem (invlpg a) = Fit b
 Given b mem (invpcid t p a) = Fit b × (p ≤ 4095)
-Given b mem (writeCr3 v) = Fit b
-Given b mem (writeMode v) = Fit b × (v < 2 ^ 7)
+Given b mem (writeCr3 v) = Fit b × (noCr3 (decode b) v ≡ false)
+Given b mem (writeMode v) = Fit b × (noMode (decode b) v ≡ false)
 
 pub given : (b : List ℕ) (mem : Memory) (q : Request) → refusal b mem q ≡ 0 → Given b mem q
-given b mem (start w) h = sized b w (passed (refusals b mem (start w)) (omega arith) h .0)
+given b mem (startWith w f) h =
+    let p : Passed (refusals b mem (startWith w f)) = passed (refusals b mem (startWith w f)) (omega arith) h in
+    let s : (length b ≡ 2048) × (36 ≤ w) × (w ≤ 52) = sized b w (p .0) in
+    (s .0, s .1, s .2, p .1 .0)
 given b mem (translate k a ac) h =
     let p : Passed (refusals b mem (translate k a ac)) = passed (refusals b mem (translate k a ac)) (omega arith) h in
     (fit b (p .0), ltb-false 5 k (p .1 .0), lengths mem (p .1 .1 .0), p .1 .1 .1 .0)
@@ -81,14 +88,16 @@ given b mem (invlpg a) h = fit b (passed (refusals b mem (invlpg a)) (omega arit
 given b mem (invpcid t p a) h =
     let q : Passed (refusals b mem (invpcid t p a)) = passed (refusals b mem (invpcid t p a)) (omega arith) h in
     (fit b (q .0), ltb-false 4095 p (or-right (ltb 3 t) _ (or-left _ _ (or-left _ _ (q .1 .0)))))
-given b mem (writeCr3 v) h = fit b (passed (refusals b mem (writeCr3 v)) (omega arith) h .0)
+given b mem (writeCr3 v) h =
+    let q : Passed (refusals b mem (writeCr3 v)) = passed (refusals b mem (writeCr3 v)) (omega arith) h in
+    (fit b (q .0), q .1 .0)
 given b mem (writeMode v) h =
     let q : Passed (refusals b mem (writeMode v)) = passed (refusals b mem (writeMode v)) (omega arith) h in
-    (fit b (q .0), leb-false (2 ^ 7) v (or-left (noFlags v) _ (or-left _ _ (q .1 .0))))
+    (fit b (q .0), q .1 .0)
 
 -- every call but start was given an image
 abbrev pub Later : Request → Type 0
-Later (start w) = ⊥
+Later (startWith w f) = ⊥
 Later (translate k a ac) = Unit {0}
 Later (invlpg a) = Unit {0}
 Later (invpcid t p a) = Unit {0}
@@ -96,9 +105,9 @@ Later (writeCr3 v) = Unit {0}
 Later (writeMode v) = Unit {0}
 
 pub fits : (q : Request) (b : List ℕ) (mem : Memory) → Later q → refusal b mem q ≡ 0 → Fit b
-fits (start w) b mem l h = absurd l
+fits (startWith w f) b mem l h = absurd l
 fits (translate k a ac) b mem l h = given b mem (translate k a ac) h .0
 fits (invlpg a) b mem l h = given b mem (invlpg a) h
 fits (invpcid t p a) b mem l h = given b mem (invpcid t p a) h .0
-fits (writeCr3 v) b mem l h = given b mem (writeCr3 v) h
+fits (writeCr3 v) b mem l h = given b mem (writeCr3 v) h .0
 fits (writeMode v) b mem l h = given b mem (writeMode v) h .0

@@ -14,7 +14,7 @@ use Rattle.rules.specs.Image.{Image, started, decode, control, pge, pcid
 use Rattle.rules.specs.Memory.{Memory, entryAt}
 use Rattle.rules.specs.Walk.{Leaf, reached, reachIn}
 use Rattle.rules.specs.Buffer.{matches, ofPcid, stored, withVictims}
-use Rattle.rules.specs.Refusals.{Request, start, translate, invlpg, invpcid, writeCr3, writeMode, canonical, refusal}
+use Rattle.rules.specs.Refusals.{Request, startWith, translate, invlpg, invpcid, writeCr3, writeMode, canonical, refusal}
 use Rattle.rules.specs.Calls.{After, accessOf, invpcidDrops, sameMode, accepted, withCr3, withFlags, Outcome, call}
 use Rattle.rules.specs.declared.Access.{Access}
 use Rattle.rules.proofs.BoolLaws.{either}
@@ -23,7 +23,7 @@ use Rattle.rules.proofs.WalkLaws.{IsLeaf, is-leaf, leaf-lt}
 use Rattle.rules.proofs.ImageLaws.{decode-encode}
 use Rattle.rules.proofs.PlaceLaws.{sound-dropped, sound-stored, sound-victims, sound-flags, sound-cr3}
 use Rattle.rules.proofs.CallLaws.{call-accepted}
-use Rattle.rules.proofs.RefusalLaws.{given, Later, fits, fit-image}
+use Rattle.rules.proofs.RefusalLaws.{mode-flags, given, Later, fits, fit-image}
 use Rattle.rules.proofs.CallWays.{Way, unpaged, answered, walks, way, cleared, pageSlot, Stores, walked-cases}
 
 -- ---- the victims once one has moved on: with p = 2 ^ (2 * n), the victims are (4 * q + m) * p + r, of which m is set n's; x takes its place
@@ -90,8 +90,8 @@ module _ (s : Image) (mem : Memory) (k : Access) (a : ℕ) (narrow : s .width �
   sound-way (walks on un) = walked-cases s mem k a Sound (sound-dropped (matches (pcid s) a) s sound) sound-page
 
 -- ---- any call
-pub sound-started : (w : ℕ) → w ≤ 52 → Sound (started w)
-sound-started w h =
+pub sound-started : (w f : ℕ) → w ≤ 52 → f < 2 ^ 7 → Sound (started w f)
+sound-started w f h g =
     record {
       width = omega arith;
       flags = omega arith;
@@ -107,7 +107,7 @@ module _ (b : List ℕ) (mem : Memory) (bytes : AreBytes b) where
   was-sound q l h = fit-image b bytes (fits q b mem l h) .sound
 
   pub sound-accepted : (q : Request) → refusal b mem q ≡ 0 → Sound (accepted (decode b) mem q .image)
-  sound-accepted (start w) h = sound-started w (given b mem (start w) h .2)
+  sound-accepted (startWith w f) h = let g = given b mem (startWith w f) h in sound-started w f (g .2) (mode-flags (started w 0) f (g .3))
   sound-accepted (translate k a ac) h =
       sound-way (decode b) mem (accessOf k ac) a (given b mem (translate k a ac) h .0 .narrow) (was-sound (translate k a ac) tt h) (way (decode b) mem (accessOf k ac) a)
   sound-accepted (invlpg a) h =
@@ -118,7 +118,7 @@ module _ (b : List ℕ) (mem : Memory) (bytes : AreBytes b) where
       (sound-cr3 (v % 2 ^ 63) (decode b) (omega arith) (was-sound (writeCr3 v) tt h))
   sound-accepted (writeMode v) h =
       sound-dropped (λ i t. not (sameMode v (decode b .flags))) (withFlags v (decode b))
-      (sound-flags v (decode b) (omega (arith, given b mem (writeMode v) h .1)) (was-sound (writeMode v) tt h))
+      (sound-flags v (decode b) (omega (arith, mode-flags (decode b) v (given b mem (writeMode v) h .1))) (was-sound (writeMode v) tt h))
 
   pub call-says : (q : Request) → refusal b mem q ≡ 0 → decode (call b mem q .image) ≡ accepted (decode b) mem q .image
   call-says q h = ap (λ (o : Outcome). decode (o .image)) (call-accepted b mem q h) ∙ decode-encode (accepted (decode b) mem q .image) (sound-accepted q h)

@@ -11,7 +11,7 @@ use Rattle.rules.specs.Memory.{Memory}
 use Rattle.rules.specs.Walk.{Walked, walk}
 use Rattle.rules.specs.Buffer.{contains, matches, ofPcid, Hit, hit, miss, find, serves, hitAddress, dropped, filled}
 use Rattle.rules.specs.Answers.{answerOf, numbers, recordBytes, returned}
-use Rattle.rules.specs.Refusals.{Request, start, translate, invlpg, invpcid, writeCr3, writeMode, canonical, refusal}
+use Rattle.rules.specs.Refusals.{Request, startWith, translate, invlpg, invpcid, writeCr3, writeMode, canonical, refusal}
 use Rattle.rules.specs.declared.Access.{Access}
 use Rattle.rules.specs.declared.Answer.{Answer}
 use Rattle.rules.specs.declared.Answer.the-variants.{Address, Refused, Done}
@@ -89,7 +89,7 @@ abbrev pub done : Image → Memory → After
 done s mem = record { answer = Done; image = s; memory = mem }
 
 abbrev pub accepted : Image → Memory → Request → After
-accepted s mem (start w) = done (started w) mem
+accepted s mem (startWith w f) = done (started w f) mem
 accepted s mem (translate k a ac) = translated (pg (s .flags)) s mem (accessOf k ac) a
 accepted s mem (invlpg a) = done (dropped (λ i t. canonical (control s) a && matches (pcid s) a i t) s) mem
 accepted s mem (invpcid t p a) = done (dropped (invpcidDrops t p a) s) mem

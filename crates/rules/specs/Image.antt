@@ -91,9 +91,9 @@ datumOf r dirty base = one (r .writable) + 2 * one (r .user) + 4 * one (r .execu
 abbrev pub none : Slot
 none = record { tag = 0; datum = 0 }
 
--- right after a start: the width, and nothing else
-abbrev pub started : ℕ → Image
-started w = record { width = w; flags = 0; cr3 = 0; victims = 0; slots = λ i. none }
+-- right after a start: the width and the flags, and nothing else
+abbrev pub started : ℕ → ℕ → Image
+started w f = record { width = w; flags = f; cr3 = 0; victims = 0; slots = λ i. none }
 
 -- ---- as 256 words, and as 2,048 bytes: the four named words, two words for each of the hundred slots, 52 words of zero
 abbrev pub slotWords : ℕ → (ℕ → Slot) → List ℕ

@@ -7,17 +7,21 @@ use lib.ListN.{length, drop}
 use lib.Dec.{leb, ltb, eqb}
 use Rattle.rules.specs.Bits.{isOn, field, anyOn, wordsOf}
 use Rattle.rules.specs.Memory.{Memory, noLengths}
-use Rattle.rules.specs.Image.{Image, decode, control, pg, pcide}
+use Rattle.rules.specs.Image.{Image, started, decode, control, pg, pcide}
 use Rattle.rules.specs.declared.Control.{Control}
 
 -- a call, with the numbers that it is asked with
 pub data Request : Type 0 where
-  start : (width : ℕ) → Request
+  startWith : (width flags : ℕ) → Request
   translate : (kind address ac : ℕ) → Request
   invlpg : (address : ℕ) → Request
   invpcid : (type pcid address : ℕ) → Request
   writeCr3 : (value : ℕ) → Request
   writeMode : (flags : ℕ) → Request
+
+-- the plain start: write protect is on, and no other flag
+abbrev pub start : ℕ → Request
+start w = startWith w 2
 
 infix 70 _if_
 pub record Refusal : Type 0 where
@@ -80,7 +84,7 @@ noInvpcid s t p a =
     ltb 3 t || ltb 4095 p || (eqb t 0 && not (canonical (control s) a)) || (leb t 1 && not (pcide (s .flags)) && not (eqb p 0))
 
 abbrev pub refusals : List ℕ → Memory → Request → List Refusal
-refusals b mem (start w) = 2 if (not (isLong b) || isOutside w) ∷ []
+refusals b mem (startWith w f) = 2 if (not (isLong b) || isOutside w) ∷ 7 if noMode (started w 0) f ∷ []
 refusals b mem (translate k a ac) =
     2 if isUnfit b ∷ 3 if ltb 5 k ∷ 4 if noLengths mem ∷ 5 if noAddress (decode b) a ∷ []
 refusals b mem (invlpg a) = 2 if isUnfit b ∷ []

@@ -7,7 +7,7 @@ use mathlib.Core.List.{List, [], _∷_}
 use lib.ListN.{length}
 use lib.Dec.{eqb}
 use Rattle.rules.specs.Memory.{Memory, empty}
-use Rattle.rules.specs.Refusals.{start}
+use Rattle.rules.specs.Refusals.{startWith}
 use Rattle.rules.specs.Calls.{Left, written, call}
 use Rattle.rules.specs.Many.{Pair, pairsIn, asks, Made, before, made, noPairs}
 use Rattle.rules.proofs.CallLaws.{door-written, door-refused}
@@ -35,7 +35,7 @@ answered m = record { number = 0; answer = m .records; image = m .image; memory 
 -- ---- the bytes after calls through the door
 same-bytes : (d : Doors) → doorBytes d ≡ bytes (historyOf d)
 unfolding bytes
-same-bytes (opened r b w long ok) = ap (λ (o : Left). o .image) (door-written r b empty (start w) long)
+same-bytes (opened r b w f long ok) = ap (λ (o : Left). o .image) (door-written r b empty (startWith w f) long)
 same-bytes (d then q with mem into r) = go (eqb (length r) 32) (same-bytes d)
   where
     go : (x : Bool) → doorBytes d ≡ bytes (historyOf d)

@@ -13,7 +13,7 @@ use Rattle.rules.specs.Sizes.{Is, is-small, is-middle, is-large, small, middle,
 use Rattle.rules.specs.Image.{Slot, Image, none, decode, control, pg, pge, pcide, nxe, pcid, isHeld, isGlobal, pcidIn, pageIn}
 use Rattle.rules.specs.Memory.{Memory}
 use Rattle.rules.specs.Buffer.{contains, matches, ofPcid}
-use Rattle.rules.specs.Refusals.{Request, start, translate, invlpg, invpcid, writeCr3, writeMode, canonical}
+use Rattle.rules.specs.Refusals.{Request, startWith, translate, invlpg, invpcid, writeCr3, writeMode, canonical}
 use Rattle.rules.specs.Calls.{isSame, sameMode, withCr3, invpcidDrops, accepted}
 use Rattle.rules.specs.declared.Size.{Size}
 use Rattle.rules.proofs.BoolLaws.{and-left, and-right, same}
@@ -62,7 +62,7 @@ contains-is b a i t h = go (eqb (pageIn t) (pageNumber (sizeOf i) a)) refl
 
 -- the rules' test of an accepted call, by slot number and tag
 abbrev test : Image → Request → ℕ → ℕ → Bool
-test s (start w) i t = true
+test s (startWith w f) i t = true
 test s (translate k a ac) i t = false
 test s (invlpg a) i t = canonical (control s) a && matches (pcid s) a i t
 test s (invpcid n p a) i t = invpcidDrops n p a i t
@@ -70,7 +70,7 @@ test s (writeCr3 v) i t = not (isOn 63 v) && ofPcid (pcid (withCr3 (v % 2 ^ 63) 
 test s (writeMode v) i t = not (sameMode v (s .flags))
 
 agree : (s : Image) (i t b : ℕ) → isHeld t ≡ true → contains b i t ≡ true → (q : Request) → test s q i t ≡ names s q (heldIn i t)
-agree s i t b held has (start w) = refl
+agree s i t b held has (startWith w f) = refl
 agree s i t b held has (translate k a ac) = refl
 agree s i t b held has (invlpg a) = rw (held, contains-is b a i t has, asked (isGlobal t) (pcidIn t) (pcid s) .2) (sym (and-assoc (canonical (control s) a) _ _))
 agree s i t b held has (invpcid zero p a) = rw (contains-is b a i t has, own t p)
@@ -83,7 +83,7 @@ agree s i t b held has (writeMode v) = changes-is v (s .flags)
 -- ---- drops: an accepted call other than translate leaves nothing in the slots that it names, and the others as they were
 module _ (s : Image) (mem : Memory) where
   by-test : (q : Request) → isTranslate q ≡ false → (i : ℕ) → accepted s mem q .image .slots i ≡ cond (test s q i (s .slots i .tag)) none (s .slots i)
-  by-test (start w) l i = refl
+  by-test (startWith w f) l i = refl
   by-test (translate k a ac) l i = absurd (true≢false l)
   by-test (invlpg a) l i = refl
   by-test (invpcid n p a) l i = refl
@@ -105,7 +105,7 @@ module _ (s : Image) (mem : Memory) where
       go false e = inr e
 
   victims-left : (q : Request) → isTranslate q ≡ false → accepted s mem q .image .victims ≡ victimsAfter s q
-  victims-left (start w) l = refl
+  victims-left (startWith w f) l = refl
   victims-left (translate k a ac) l = absurd (true≢false l)
   victims-left (invlpg a) l = refl
   victims-left (invpcid t p a) l = refl
@@ -138,7 +138,7 @@ module _ (s : Image) (i t : ℕ) where
   Somewhere q = (a : ℕ) × (contains a i t ≡ true) × (covers (whoOf t) a s q ≡ true)
 
   names-covers : (b : ℕ) → contains b i t ≡ true → (q : Request) → names s q (heldIn i t) ≡ true → Somewhere q
-  names-covers b has (start w) h = (b, has, refl)
+  names-covers b has (startWith w f) h = (b, has, refl)
   names-covers b has (translate k a ac) h = absurd (true≢false (sym h))
   names-covers b has (invlpg a) h =
       let x : (canonical (control s) a && hasAddress (heldIn i t) a) ≡ true = and-left _ _ h in (

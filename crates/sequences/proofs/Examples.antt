@@ -12,7 +12,7 @@ use Rattle.rules.specs.Bits.{bytesOfAll}
 use Rattle.rules.specs.Image.{Image, tagOf, started, encode, decode}
 use Rattle.rules.specs.Memory.{Memory, both, empty, entryAt}
 use Rattle.rules.specs.Buffer.{stored}
-use Rattle.rules.specs.Refusals.{translate, invlpg, invpcid, writeCr3, writeMode}
+use Rattle.rules.specs.Refusals.{startWith, translate, invlpg, invpcid, writeCr3, writeMode}
 use Rattle.rules.specs.Calls.{call}
 use Rattle.rules.specs.Many.{pairsFrom, made, many}
 use Rattle.rules.specs.TrialGuest.{startsWith}
@@ -39,7 +39,7 @@ changed = guest 0x8007 0x9107 0xA00087
 
 -- paging on, with write protect, global pages and NXE; and with PCIDs besides
 abbrev ready : History
-ready = begun (replicate 2048 0) 40 refl then writeMode 23 with empty
+ready = begun (replicate 2048 0) 40 2 refl then writeMode 23 with empty
 
 abbrev withPcids : History
 withPcids = ready then writeMode 31 with empty then writeCr3 0x0001 with empty
@@ -165,7 +165,7 @@ not-covered = (refl, refl, refl)
 -- ---- why the claims on drops ask for a slot that an address names: page 1, by hand in set 0, which is not its own, stays through INVLPG of its address,
 -- though the list names what it holds
 abbrev misplaced : Image
-misplaced = stored 0 (record { tag = tagOf false 0 1; datum = 0 }) (started 40)
+misplaced = stored 0 (record { tag = tagOf false 0 1; datum = 0 }) (started 40 0)
 
 pub not-placed : (names misplaced (invlpg 0x1000) (heldIn 0 (misplaced .slots 0 .tag)) ≡ true)
     × (decode (call (encode misplaced) empty (invlpg 0x1000) .image) .slots 0 ≡ misplaced .slots 0)
@@ -206,10 +206,37 @@ pub not-b : (mem : Memory) → RootB moved mem 0x1000 → ⊥
 unfolding bytes encode decode
 not-b mem c = let z : _≡_ {A = ℕ} 0x0000 0x1000 = c .root-others .1 .0 refl in omega arith
 
+-- ---- starts: one in the middle of a history covers everything, so the page that was read before is walked to anew
+abbrev restarted : History
+restarted = readGlobal read then startWith 40 23 with empty
+
+pub start-covers : (covered global 0x2000 (readGlobal read) empty (startWith 40 23) ≡ true)
+    × (covered (others 0) 0x1000 (readGlobal read) empty (startWith 40 23) ≡ true)
+    × Shows restarted changed 0 0x1000 0 (Address 0x8000 0x1000 4) (Address 0x8000 0x1000 4)
+unfolding bytes encode decode
+start-covers = (refl, refl, (refl, refl))
+
+-- one that turns paging on leaves the root 0 in force until the CR3 write, which does not cover global slots: (a) does not hold. A saved state that is loaded
+-- with paging off first stands under (a), whatever memory is given: its mode write covers everything
+abbrev startedPaged : History
+startedPaged = begun (replicate 2048 0) 40 23 refl then writeCr3 0x1000 with empty
+
+pub not-a-paged : (mem : Memory) → RootA startedPaged mem 0x1000 → ⊥
+unfolding bytes encode decode
+not-a-paged mem c = let z : _≡_ {A = ℕ} 0x0000 0x1000 = c .root-global .1 in omega arith
+
+abbrev loaded : History
+loaded = begun (replicate 2048 0) 40 22 refl then writeCr3 0x1000 with empty then writeMode 31 with empty then writeCr3 0x1005 with empty
+
+pub under-a-loaded : (mem : Memory) → RootA loaded mem 0x1000
+unfolding bytes encode decode
+under-a-loaded mem =
+    record { root-global = (refl, (refl, tt)); root-others = (refl, tt); memory-global = tt; memory-others = tt }
+
 -- ---- a batch: in one call a page is read, written to and written to again. The third of its calls is answered by the buffer, and is the write that stands
 -- under (a); the batch before it, with too few answer bytes, is no call. Then the guest changed its table and did not invalidate
 abbrev readyDoors : Doors
-readyDoors = opened (replicate 32 0) (replicate 2048 0) 40 refl refl then writeMode 23 with empty into replicate 32 0
+readyDoors = opened (replicate 32 0) (replicate 2048 0) 40 2 refl refl then writeMode 23 with empty into replicate 32 0
 
 abbrev thrice : List ℕ
 thrice = bytesOfAll (0 ∷ 0x1000 ∷ 1 ∷ 0x1000 ∷ 1 ∷ 0x1000 ∷ [])

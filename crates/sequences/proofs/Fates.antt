@@ -10,7 +10,7 @@ use Rattle.rules.specs.Memory.{Memory}
 use Rattle.rules.specs.Entries.{allows}
 use Rattle.rules.specs.Walk.{Leaf, reached, reachIn, walk}
 use Rattle.rules.specs.Buffer.{contains, Hit, hit, miss, find}
-use Rattle.rules.specs.Refusals.{Request, start, translate, invlpg, invpcid, writeCr3, writeMode}
+use Rattle.rules.specs.Refusals.{Request, startWith, translate, invlpg, invpcid, writeCr3, writeMode}
 use Rattle.rules.specs.Calls.{After, accessOf, accepted}
 use Rattle.rules.proofs.BoolLaws.{refuted}
 use Rattle.rules.proofs.CallWays.{Way, unpaged, answered, walks, way, pageSlot, walked-slot}
@@ -88,7 +88,7 @@ module _ (h : History) (mem : Memory) (i : ℕ) where
       unanswered miss f = refl
 
   pub fate : (q : Request) → Accepted h mem q → Fate h mem i (accepted (image h) mem q .image .slots i) q
-  fate (start w) ok = gone refl
+  fate (startWith w f) ok = gone refl
   fate (translate k a ac) ok = by-way k a ac ok (way (image h) mem (accessOf k ac) a) refl
   fate (invlpg a) ok = by-drop (invlpg a) refl
   fate (invpcid t p a) ok = by-drop (invpcid t p a) refl

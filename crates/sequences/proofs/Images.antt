@@ -6,11 +6,11 @@ use mathlib.Core.List.{List}
 use Rattle.rules.specs.Bits.{AreBytes}
 use Rattle.rules.specs.Image.{Image, started, decode}
 use Rattle.rules.specs.Memory.{Memory, empty}
-use Rattle.rules.specs.Refusals.{Request, start, refusal}
+use Rattle.rules.specs.Refusals.{Request, startWith, refusal}
 use Rattle.rules.specs.Calls.{accepted, Outcome}
 use Rattle.rules.proofs.ImageLaws.{encode-bytes, decode-encode}
 use Rattle.rules.proofs.CallLaws.{call-accepted}
-use Rattle.rules.proofs.RefusalLaws.{given}
+use Rattle.rules.proofs.RefusalLaws.{mode-flags, given}
 use Rattle.rules.proofs.CallWays.{Called, taken, refused, called}
 use Rattle.rules.proofs.SoundLaws.{sound-started, sound-accepted}
 use Rattle.sequences.specs.History.{History, begun, _then_with_, bytes, image, Accepted}
@@ -22,14 +22,15 @@ call-bytes b mem q h (refused n e) = h
 
 are-bytes : (h : History) → AreBytes (bytes h)
 unfolding bytes
-are-bytes (begun b w ok) = subst (λ (o : Outcome). AreBytes (o .image)) (sym (call-accepted b empty (start w) ok)) (encode-bytes (started w))
+are-bytes (begun b w f ok) = subst (λ (o : Outcome). AreBytes (o .image)) (sym (call-accepted b empty (startWith w f) ok)) (encode-bytes (started w f))
 are-bytes (h then q with mem) = call-bytes (bytes h) mem q (are-bytes h) (called (bytes h) mem q)
 
 -- ---- the image after start; after a call, which was accepted or refused
-pub image-start : (b : List ℕ) (w : ℕ) (ok : refusal b empty (start w) ≡ 0) → image (begun b w ok) ≡ started w
+pub image-start : (b : List ℕ) (w f : ℕ) (ok : refusal b empty (startWith w f) ≡ 0) → image (begun b w f ok) ≡ started w f
 unfolding bytes
-image-start b w ok =
-    ap (λ (o : Outcome). decode (o .image)) (call-accepted b empty (start w) ok) ∙ decode-encode (started w) (sound-started w (given b empty (start w) ok .2))
+image-start b w f ok =
+    let g = given b empty (startWith w f) ok in
+    ap (λ (o : Outcome). decode (o .image)) (call-accepted b empty (startWith w f) ok) ∙ decode-encode (started w f) (sound-started w f (g .2) (mode-flags (started w 0) f (g .3)))
 
 pub image-cases : (h : History) (mem : Memory) (q : Request) (C : Image → Type 0) → (Accepted h mem q → C (accepted (image h) mem q .image))
     → ((n : ℕ) → refusal (bytes h) mem q ≡ suc n → C (image h)) → C (image (h then q with mem))

@@ -6,4 +6,5 @@ pub mod Origins
 pub mod Answers
 pub mod Spans
 pub mod Equality
+pub mod Loading
 pub mod Examples

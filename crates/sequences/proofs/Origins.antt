@@ -52,7 +52,7 @@ origin h i t e held = go h e
     never e = absurd (true≢false (sym held ∙ ap (λ (x : Slot). isHeld (x .tag)) e))
 
     go : (h : History) → image h .slots i ≡ t → Origin i t h
-    go (begun b w ok) e = never (sym e ∙ ap (λ (s : Image). s .slots i) (image-start b w ok))
+    go (begun b w f ok) e = never (sym e ∙ ap (λ (s : Image). s .slots i) (image-start b w f ok))
     go (h then q with mem) e =
         image-cases h mem q (λ (s : Image). s .slots i ≡ t → Origin i t (h then q with mem))
         (λ ok p. by (go h) (subst (λ (u : Slot). Fate h mem i u q) p (fate h mem i q ok)))

@@ -6,7 +6,7 @@ use mathlib.Core.Bool.{Bool, true, false, _&&_, _||_, true≢false, and-true, an
 use borrow.Author.Tests.{eq-eqb}
 use Rattle.rules.specs.Image.{Image, control, pg, pge, pcide, nxe, pcid}
 use Rattle.rules.specs.Memory.{Memory}
-use Rattle.rules.specs.Refusals.{Request, start, translate, invlpg, invpcid, writeCr3, writeMode, refusal}
+use Rattle.rules.specs.Refusals.{Request, startWith, translate, invlpg, invpcid, writeCr3, writeMode, refusal}
 use Rattle.rules.specs.Calls.{After, accessOf, accepted, call}
 use Rattle.rules.specs.declared.Access.{Access}
 use Rattle.rules.proofs.BoolLaws.{or-right}
@@ -38,7 +38,7 @@ thrice true h = h
 thrice false h = refl
 
 kept-accepted : (who : Who) (a : ℕ) (s : Image) (mem : Memory) (q : Request) → covers who a s q ≡ false → Kept s (accepted s mem q .image)
-kept-accepted who a s mem (start w) h = absurd (true≢false h)
+kept-accepted who a s mem (startWith w f) h = absurd (true≢false h)
 kept-accepted who a s mem (translate k b ac) h = kept-way s mem (accessOf k ac) b (way s mem (accessOf k ac) b)
 kept-accepted who a s mem (invlpg b) h = record { width = refl; nxe = refl }
 kept-accepted who a s mem (invpcid t p b) h = record { width = refl; nxe = refl }
@@ -63,7 +63,7 @@ pub data Traced (P : History → Memory → ℕ → ℕ → ℕ → Type 0) (R :
 
 -- what holds throughout a span holds at its end; and at a call that does not begin the span, the span goes on before it
 throughout-end : (begins : History → Memory → Request → Bool) (R : History → Type 0) (h : History) → Throughout begins R h → R h
-throughout-end begins R (begun b w ok) t = t
+throughout-end begins R (begun b w f ok) t = t
 throughout-end begins R (h then q with mem) t = t .0
 
 pub goes-on : (b : Bool) (A : Type 0) → b ≡ false → Unless b A → A
@@ -102,12 +102,12 @@ shorter A B x false f g u = g (goes-on x A (f refl) u)
 
 module _ (c d : History → Memory → Request → Bool) (sooner : (h : History) (mem : Memory) (q : Request) → d h mem q ≡ false → c h mem q ≡ false) where
   part : (R : History → Type 0) (h : History) → Throughout c R h → Throughout d R h
-  part R (begun b w ok) t = t
+  part R (begun b w f ok) t = t
   part R (h then q with mem) t =
       (t .0, shorter (Throughout c R h) (Throughout d R h) (c h mem q) (d h mem q) (sooner h mem q) (part R h) (t .1))
 
   memory-part : (h : History) (last : Memory) → OnlyTranslator c h last → OnlyTranslator d h last
-  memory-part (begun b w ok) last o = tt
+  memory-part (begun b w f ok) last o = tt
   memory-part (h then q with mem) last o =
       shorter (Asked c (isMoment h mem q) h mem q last) (Asked d (isMoment h mem q) h mem q last) (c h mem q) (d h mem q) (sooner h mem q)
       (go (isMoment h mem q) (memory-part h)) o

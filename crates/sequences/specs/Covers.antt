@@ -7,7 +7,7 @@ use Rattle.rules.specs.Bits.{isOn, field}
 use Rattle.rules.specs.Sizes.{small, middle, large, pageNumber}
 use Rattle.rules.specs.Image.{Image, control, pg, pge, pcide, nxe, pcid}
 use Rattle.rules.specs.Memory.{Memory}
-use Rattle.rules.specs.Refusals.{Request, start, translate, invlpg, invpcid, writeCr3, writeMode, canonical}
+use Rattle.rules.specs.Refusals.{Request, startWith, translate, invlpg, invpcid, writeCr3, writeMode, canonical}
 use Rattle.rules.specs.declared.Size.{Size}
 use Rattle.sequences.specs.History.{History, image, isAccepted}
 
@@ -56,7 +56,7 @@ typeNames (suc (suc (suc n))) p a x = not (areGlobal (x .who))
 
 -- a call that is accepted at image s drops a slot that holds this
 abbrev pub names : Image → Request → Held → Bool
-names s (start w) x = true
+names s (startWith w f) x = true
 names s (translate k a ac) x = false
 names s (invlpg a) x = canonical (control s) a && hasAddress x a && (areGlobal (x .who) || areOf (pcid s) (x .who))
 names s (invpcid t p a) x = typeNames t p a x

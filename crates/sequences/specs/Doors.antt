@@ -8,7 +8,7 @@ use lib.ListN.{length}
 use lib.Dec.{eqb}
 use Rattle.rules.specs.Memory.{Memory, empty}
 use Rattle.rules.specs.Answers.{numbers, recordBytes}
-use Rattle.rules.specs.Refusals.{Request, start, refusal}
+use Rattle.rules.specs.Refusals.{Request, startWith, refusal}
 use Rattle.rules.specs.Calls.{written, call, door}
 use Rattle.rules.specs.Many.{Pair, pairsIn, asks, noPairs, many}
 use Rattle.sequences.specs.History.{History, begun, _then_with_, bytes}
@@ -34,19 +34,19 @@ leftOf h mem (p ∷ ps) = leftOf (h then asks p with mem) (call (bytes h) mem (a
 infixl 20 _then_with_into_
 infixl 20 _then-many_with_into_
 pub data Doors : Type 0 where
-  opened : (answer image : List ℕ) (width : ℕ) → length answer ≡ 32 → refusal image empty (start width) ≡ 0 → Doors
+  opened : (answer image : List ℕ) (width flags : ℕ) → length answer ≡ 32 → refusal image empty (startWith width flags) ≡ 0 → Doors
   _then_with_into_ : Doors → Request → Memory → List ℕ → Doors
   _then-many_with_into_ : Doors → (pairs : List ℕ) → Memory → (answers : List ℕ) → Doors
 
 -- the image's bytes that the last call left
 abbrev pub doorBytes : Doors → List ℕ
-doorBytes (opened r b w long ok) = door r b empty (start w) .image
+doorBytes (opened r b w f long ok) = door r b empty (startWith w f) .image
 doorBytes (d then q with mem into r) = door r (doorBytes d) mem q .image
 doorBytes (d then-many ps with mem into rs) = many rs (doorBytes d) mem ps .image
 
 -- the history of those calls whose answer bytes are 32, with the single calls of each batch. A batch that is refused, by the number 10, is no call
 abbrev pub historyOf : Doors → History
-historyOf (opened r b w long ok) = begun b w ok
+historyOf (opened r b w f long ok) = begun b w f ok
 historyOf (d then q with mem into r) = cond (eqb (length r) 32) (historyOf d then q with mem) (historyOf d)
 historyOf (d then-many ps with mem into rs) = cond (noPairs ps rs) (historyOf d) (oneByOne (historyOf d) mem (pairsIn ps))
 

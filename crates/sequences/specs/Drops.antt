@@ -10,7 +10,7 @@ use Rattle.rules.specs.Sizes.{sizeOf}
 use Rattle.rules.specs.Image.{Slot, Image, none, decode, isHeld, isGlobal, pcidIn, pageIn}
 use Rattle.rules.specs.Memory.{Memory}
 use Rattle.rules.specs.Buffer.{contains}
-use Rattle.rules.specs.Refusals.{Request, start, translate, invlpg, invpcid, writeCr3, writeMode, refusal}
+use Rattle.rules.specs.Refusals.{Request, startWith, translate, invlpg, invpcid, writeCr3, writeMode, refusal}
 use Rattle.rules.specs.Calls.{call}
 use Rattle.sequences.specs.History.{History, image}
 use Rattle.sequences.specs.Covers.{Who, global, others, Held, names, covers}
@@ -37,7 +37,7 @@ Placed = (h : History) (i : ℕ) → isHeld (image h .slots i .tag) ≡ true →
 -- ---- an accepted operation other than translate: of the slots above those are empty that the list names, and the others as they were; no slot at all is
 -- anything but empty or as it was; victim numbers stay through all but start
 abbrev pub victimsAfter : Image → Request → ℕ
-victimsAfter s (start w) = 0
+victimsAfter s (startWith w f) = 0
 victimsAfter s (translate k a ac) = s .victims
 victimsAfter s (invlpg a) = s .victims
 victimsAfter s (invpcid t p a) = s .victims

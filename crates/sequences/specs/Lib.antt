@@ -4,3 +4,4 @@ pub mod Covers
 pub mod Spans
 pub mod Claims
 pub mod Drops
+pub mod Loading

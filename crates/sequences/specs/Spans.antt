@@ -8,7 +8,7 @@ use Rattle.rules.specs.Image.{Image, control, root, pcid, pg, pge}
 use Rattle.rules.specs.Memory.{Memory}
 use Rattle.rules.specs.Walk.{walk}
 use Rattle.rules.specs.Buffer.{Hit, hit, miss, find, serves}
-use Rattle.rules.specs.Refusals.{Request, start, translate, invlpg, invpcid, writeCr3, writeMode}
+use Rattle.rules.specs.Refusals.{Request, startWith, translate, invlpg, invpcid, writeCr3, writeMode}
 use Rattle.rules.specs.Calls.{accessOf, call}
 use Rattle.rules.specs.declared.Access.{Access}
 use Rattle.rules.specs.declared.Found.{Found}
@@ -32,13 +32,13 @@ Unless false A = A
 
 -- P holds after each call of the span
 abbrev pub Throughout : (History → Memory → Request → Bool) → (History → Type 0) → History → Type 0
-Throughout begins P (begun b w ok) = P (begun b w ok)
+Throughout begins P (begun b w f ok) = P (begun b w f ok)
 Throughout begins P (h then q with mem) = P (h then q with mem) × Unless (begins h mem q) (Throughout begins P h)
 
 -- ---- only the translator changed guest memory, the bytes or the length of low or of high: in the span, each accepted translate, and at last the one that is lent
 -- `last`, was lent what the accepted translate before it left. Other calls are given no guest memory, and refused ones leave it alone: they ask nothing
 abbrev pub isTranslate : Request → Bool
-isTranslate (start w) = false
+isTranslate (startWith w f) = false
 isTranslate (translate k a ac) = true
 isTranslate (invlpg a) = false
 isTranslate (invpcid t p a) = false
@@ -58,7 +58,7 @@ IfMoment true A B = A
 IfMoment false A B = B
 
 abbrev pub OnlyTranslator : (History → Memory → Request → Bool) → History → Memory → Type 0
-OnlyTranslator begins (begun b w ok) last = Unit {0}
+OnlyTranslator begins (begun b w f ok) last = Unit {0}
 OnlyTranslator begins (h then q with mem) last =
     Unless (begins h mem q) (IfMoment (isMoment h mem q) (IsLeft last h mem q × OnlyTranslator begins h mem) (OnlyTranslator begins h last))
 
@@ -72,7 +72,7 @@ globalPage s b a (Page base level r g dirty n) = (pge (s .flags) && g) && eqb (p
 globalPage s b a (Fault cause level n) = false
 
 abbrev pub fillsGlobal : ℕ → Image → Memory → Request → Bool
-fillsGlobal a s mem (start w) = false
+fillsGlobal a s mem (startWith w f) = false
 fillsGlobal a s mem (translate k b ac) =
     pg (s .flags) && not (slotAnswers s (accessOf k ac) (find s b)) && globalPage s b a (walk (control s) (accessOf k ac) b mem .found)
 fillsGlobal a s mem (invlpg b) = false
@@ -82,7 +82,7 @@ fillsGlobal a s mem (writeMode v) = false
 
 -- the last call of the history did not
 abbrev pub NoGlobalFill : ℕ → History → Type 0
-NoGlobalFill a (begun b w ok) = Unit {0}
+NoGlobalFill a (begun b w f ok) = Unit {0}
 NoGlobalFill a (h then q with mem) = (fillsGlobal a (image h) mem q && isAccepted h mem q) ≡ false
 
 -- ---- the root condition, for a translate of a that is lent `mem` after h, with the span in which only the translator changed memory

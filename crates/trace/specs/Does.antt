@@ -1,4 +1,4 @@
--- What a line does: a call of the rules, with AC 0, or the store of one guest word.
+-- What a line does: a call of the rules, a start with flags 0 and a translate with AC 0; or the store of one guest word.
 use Prim.Native.Nat.{ℕ, _+_, _%_}
 use mathlib.Core.Bool.{Bool, cond, _&&_}
 use mathlib.Core.List.{List, []}
@@ -7,7 +7,7 @@ use lib.Dec.{leb, eqb}
 use Rattle.rules.specs.Bits.{wordPut}
 use Rattle.rules.specs.Memory.{both}
 use Rattle.rules.specs.Answers.{Words, numbers}
-use Rattle.rules.specs.Refusals.{Request, start, translate, invlpg, invpcid, writeCr3, writeMode}
+use Rattle.rules.specs.Refusals.{Request, startWith, translate, invlpg, invpcid, writeCr3, writeMode}
 use Rattle.rules.specs.Calls.{Outcome, call}
 use Rattle.rules.specs.declared.Answer.the-variants.{Done}
 use Rattle.trace.specs.Orders.{orderOf}
@@ -44,7 +44,7 @@ stores b mem a x =
     cond (isPlace mem a) (record { answer = numbers Done; image = b; memory = wordPut mem a x }) (refusesLine b mem)
 
 abbrev pub does : Order → List ℕ → Low → Given
-does (Start w) b mem = calls b mem (start w)
+does (Start w) b mem = calls b mem (startWith w 0)
 does (Mode v) b mem = calls b mem (writeMode v)
 does (Cr3 v) b mem = calls b mem (writeCr3 v)
 does (Invlpg a) b mem = calls b mem (invlpg a)

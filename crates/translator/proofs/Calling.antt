@@ -4,11 +4,11 @@ use mathlib.Core.Path.{_≡_, refl, ap, ap₂, sym, _∙_, subst}
 use mathlib.Core.Bool.{Bool, true, false, _&&_, not}
 use mathlib.Core.List.{List}
 use native.Mathlib.Omega.{arith}
-use lib.ListN.{length, replicate, length-replicate}
+use lib.ListN.{length, replicate}
 use Rattle.rules.specs.Bits.{AreBytes, isOn, wordAt, wordPut}
 use Rattle.rules.specs.Image.{Image, started, encode, decode, control, pcid, Sound, IsImage}
 use Rattle.rules.specs.Memory.{Memory, empty}
-use Rattle.rules.specs.Refusals.{Request, start, invlpg, invpcid, writeCr3, writeMode, canonical, refusal}
+use Rattle.rules.specs.Refusals.{Request, startWith, invlpg, invpcid, writeCr3, writeMode, canonical, refusal}
 use Rattle.rules.specs.Calls.{withCr3, withFlags, isSame, sameMode, invpcidDrops, accepted, done, Outcome, encoded, byNumber}
 use Rattle.rules.specs.Buffer.{matches, ofPcid, dropped}
 use Rattle.rules.specs.declared.Control.{Control}
@@ -16,7 +16,7 @@ use Rattle.rules.specs.declared.Answer.{Answer}
 use Rattle.rules.specs.declared.Answer.the-variants.{Refused, Done}
 use Rattle.rules.proofs.ImageLaws.{cr3-bytes, flags-bytes, decode-encode}
 use Rattle.rules.proofs.PlaceLaws.{is-encoded, flags-at, sound-flags, sound-cr3}
-use Rattle.rules.proofs.RefusalLaws.{given, Later, fits, fit-image}
+use Rattle.rules.proofs.RefusalLaws.{mode-flags, given, Later, fits, fit-image}
 use Rattle.drops.specs.Drops.{droppedIn, every, notGlobal, everyOf, everyOfAt}
 use Rattle.translator.specs.Contract.{Leaves}
 
@@ -31,20 +31,29 @@ accepts : (q : Request) (b b′ : List ℕ) (n : ℕ) (r : Answer) → ((mem : M
     → Leaves q b b′ r
 accepts q b b′ n r f h z g = record { outcome = λ mem. g mem ∙ sym (ap (byNumber b mem q) (f mem ∙ sym h ∙ z)) }
 
--- ---- start
-started-bytes : (w : ℕ) → wordPut (replicate 2048 0) 0 w ≡ encode (started w)
+-- ---- start: two words are put into bytes that are clear
+started-bytes : (w f : ℕ) → wordPut (wordPut (replicate 2048 0) 0 w) 8 f ≡ encode (started w f)
 unfolding encode
-started-bytes w = refl
+started-bytes w f = refl
 
-pub starts : (w n : ℕ) (b b₁ b₂ : List ℕ) → n ≡ refusal b empty (start w) → n ≡ 0 → b₁ ≡ replicate (length b) 0 → b₂ ≡ wordPut b₁ 0 w
-    → Leaves (start w) b b₂ Done
-starts w n b b₁ b₂ h z e₁ e₂ =
-    let l : length b ≡ 2048 = given b empty (start w) (sym h ∙ z) .0 in
-    let q : b₂ ≡ encode (started w) = e₂ ∙ ap (λ (x : List ℕ). wordPut x 0 w) (e₁ ∙ ap (λ (k : ℕ). replicate {A = ℕ} k 0) l) ∙ started-bytes w in
-    accepts (start w) b b₂ n Done (λ mem. refl) h z (λ mem. λ i. record { answer = Done; image = q i; memory = mem })
+module _ (w f n : ℕ) (b b₁ : List ℕ) (h : n ≡ refusal b empty (startWith w f)) (z : n ≡ 0) (clear : b₁ ≡ replicate (length b) 0) where
+  cleared : b₁ ≡ replicate 2048 0
+  cleared = clear ∙ ap (λ (k : ℕ). replicate {A = ℕ} k 0) (given b empty (startWith w f) (sym h ∙ z) .0)
 
-pub room : (w n : ℕ) (b b₁ : List ℕ) → n ≡ refusal b empty (start w) → n ≡ 0 → b₁ ≡ replicate (length b) 0 → 0 + 8 ≤ length b₁
-room w n b b₁ h z e = omega (arith, given b empty (start w) (sym h ∙ z) .0, ap length e ∙ length-replicate (length b) 0)
+  pub width-room : 0 + 8 ≤ length b₁
+  width-room = let l : length b₁ ≡ 2048 = ap length cleared in omega arith
+
+  module _ (b₂ : List ℕ) (put : b₂ ≡ wordPut b₁ 0 w) where
+    sized : b₂ ≡ wordPut (replicate 2048 0) 0 w
+    sized = put ∙ ap (λ (x : List ℕ). wordPut x 0 w) cleared
+
+    pub flags-room : 8 + 8 ≤ length b₂
+    flags-room = let l : length b₂ ≡ 2048 = ap length sized in omega arith
+
+    pub starts : (b₃ : List ℕ) → b₃ ≡ wordPut b₂ 8 f → Leaves (startWith w f) b b₃ Done
+    starts b₃ e =
+        let q : b₃ ≡ encode (started w f) = e ∙ ap (λ (x : List ℕ). wordPut x 8 f) sized ∙ started-bytes w f in
+        accepts (startWith w f) b b₃ n Done (λ mem. refl) h z (λ mem. λ i. record { answer = Done; image = q i; memory = mem })
 
 -- ---- a call other than start that is accepted was given an image
 pub call-long : (q : Request) (b : List ℕ) (mem : Memory) (n : ℕ) → Later q → n ≡ refusal b mem q → n ≡ 0 → length b ≡ 2048
@@ -144,7 +153,7 @@ module _ (v n f : ℕ) (b b₁ : List ℕ) (was : IsImage b) (h : n ≡ refusal 
   moded-bytes = put ∙ sym (flags-bytes v (decode b) ∙ ap (λ (x : List ℕ). wordPut x 8 v) (was .says))
 
   moded-sound : Sound moded
-  moded-sound = sound-flags v (decode b) (omega (arith, given b empty (writeMode v) (sym h ∙ z) .1)) (was .sound)
+  moded-sound = sound-flags v (decode b) (omega (arith, mode-flags (decode b) v (given b empty (writeMode v) (sym h ∙ z) .1))) (was .sound)
 
   pub mode-image : IsImage b₁
   mode-image = subst IsImage (sym moded-bytes) (is-encoded moded moded-sound)

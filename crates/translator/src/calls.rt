@@ -1,21 +1,31 @@
 // The calls, each answering as the rules' call of its name.
 ghost use mathlib.Core.Path.{_≡_};
-ghost use Rattle.rules.specs.Refusals.{start as startOf, invlpg as invlpgOf, invpcid as invpcidOf, writeCr3, writeMode};
+ghost use Rattle.rules.specs.Refusals.{startWith, start as startOf, invlpg as invlpgOf, invpcid as invpcidOf, writeCr3, writeMode};
 ghost use Rattle.rules.specs.Calls.{isSame, sameMode};
 ghost use Rattle.translator.specs.Contract.{Leaves};
 use rules::Answer;
 
-// The image is that of a processor of the given width, with paging off and nothing held.
-pub fn start(image: &mut [u8], width: u64) -> Answer
-    ensures { λ r. ⌜ Leaves (startOf width) (now (image .entry)) (now (image .exit)) r ⌝ }
+// The flags of the plain start: write protect alone.
+const START_FLAGS: u64 = 0b10;
+
+// The image is that of a processor of the given width and flags, with CR3 0 and nothing held.
+pub fn start_with(image: &mut [u8], width: u64, flags: u64) -> Answer
+    ensures { λ r. ⌜ Leaves (startWith width flags) (now (image .entry)) (now (image .exit)) r ⌝ }
 {
-    let number = refusals::start_refusal(image, width);
+    let number = refusals::start_refusal(image, width, flags);
     if number != 0 {
         return Answer::Refused { number };
     }
     words::clear(image);
     words::write_word(image, 0, width);
+    words::write_word(image, 8, flags);
     Answer::Done
+}
+
+pub fn start(image: &mut [u8], width: u64) -> Answer
+    ensures { λ r. ⌜ Leaves (startOf width) (now (image .entry)) (now (image .exit)) r ⌝ }
+{
+    start_with(image, width, START_FLAGS)
 }
 
 // What is held for an address is dropped.

@@ -7,8 +7,8 @@ use Rattle.lines.proofs.perform.Tie as tie
 enum-known-order : tie.Need-enum-known-order
 enum-known-order c = search needs
 
-start-requires : tie.Need-start-requires
-start-requires c κs = search needs
+start-with-requires : tie.Need-start-with-requires
+start-with-requires c κs = search needs
 
 write-record-requires : tie.Need-write-record-requires
 write-record-requires c κs = search needs
@@ -147,7 +147,7 @@ perform-spec =
     tie.close
     (tie.spec
     enum-known-order
-    start-requires
+    start-with-requires
     write-record-requires
     enum-known-order-2
     write-mode-requires

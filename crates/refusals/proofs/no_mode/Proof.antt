@@ -1,17 +1,11 @@
--- The flags and CR3 are the words that were read.
+-- The flag that is wanted, and what it is judged from.
 use Rattle.refusals.proofs.Checks.{no-mode-is}
 use borrow.Author.Needs.{needs}
 use Rattle.refusals.proofs.no_mode.Statement.{statement}
 use Rattle.refusals.proofs.no_mode.Tie as tie
 
-read-word-requires : tie.Need-read-word-requires
-read-word-requires c κs = search needs
-
 is-on-requires : tie.Need-is-on-requires
 is-on-requires c κs = search needs
-
-read-word-requires-2 : tie.Need-read-word-requires-2
-read-word-requires-2 c κs = search needs
 
 is-on-requires-2 : tie.Need-is-on-requires-2
 is-on-requires-2 c κs = search needs
@@ -26,13 +20,4 @@ returns : tie.Need-returns
 returns c = search no-mode-is
 
 pub no-mode-spec : {M : Type 1} → statement M
-no-mode-spec =
-    tie.close
-    (tie.spec
-    read-word-requires
-    is-on-requires
-    read-word-requires-2
-    is-on-requires-2
-    no-flags-requires
-    is-on-requires-3
-    returns)
+no-mode-spec = tie.close (tie.spec is-on-requires is-on-requires-2 no-flags-requires is-on-requires-3 returns)
