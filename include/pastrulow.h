@@ -44,8 +44,7 @@ extern "C" {
  *   3: translate takes AC, after the address; SMEP and SMAP are flags, and with SMEP on a fetch's fault has
  *      PASTRULOW_CODE_FETCH too
  *   4: translate and translate_many take guest memory as two slices, low and high; low has a limit (refusal 4)
- *   5: start leaves write protect on; a host that wants the image that start made before, with all flags off, as an old loader
- *      or a replayed trace does, calls start_with with flags 0
+ *   5: start leaves write protect on; start_with is new, and with flags 0 it is the start of before
  */
 #define PASTRULOW_VERSION UINT64_C(5)
 uint64_t pastrulow_version(void);
@@ -135,13 +134,14 @@ uint64_t pastrulow_version(void);
 
 /*
  * Makes a new image for a machine of this physical width: write protect on and all other flags off, CR3 0, buffer empty. What
- * the image held before is not read. The flags are as a mode write leaves them: one that is to turn paging on and keep write
- * protect has both, PASTRULOW_PG | PASTRULOW_WP.
+ * the image held before is not read. A mode write sets all flags, so one that turns paging on keeps write protect only if it
+ * names both. A host that needs all flags off, such as a loader or a replay of traces that were written for version 4, calls
+ * start_with with flags 0 instead.
  */
 uint64_t pastrulow_start(uint8_t *image, size_t image_len, uint64_t width, uint8_t *answer, size_t answer_len);
 
 /*
- * The same with these flags. They are judged as those of a mode write from flags 0 and CR3 0, so PCIDE is taken with PG and
+ * The same, with these flags. They are judged as those of a mode write from flags 0 and CR3 0, so PCIDE is taken with PG and
  * refused without (refusal 7). With PG on, paging is on at once, and the root is 0 until the first CR3 write.
  */
 uint64_t pastrulow_start_with(uint8_t *image, size_t image_len, uint64_t width, uint64_t flags, uint8_t *answer,

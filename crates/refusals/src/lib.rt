@@ -23,7 +23,7 @@ fn no_flags(flags: u64) -> bool
     128 <= flags
 }
 
-// The bytes are no image that a call other than start takes.
+// The bytes are no image that a call other than a start takes.
 pub fn is_unfit(image: &[u8]) -> bool
     ensures { λ r. ⌜ r ≡ isUnfit (now (image .entry)) ⌝ }
 {

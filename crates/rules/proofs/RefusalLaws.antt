@@ -95,7 +95,7 @@ given b mem (writeMode v) h =
     let q : Passed (refusals b mem (writeMode v)) = passed (refusals b mem (writeMode v)) (omega arith) h in
     (fit b (q .0), q .1 .0)
 
--- every call but start was given an image
+-- every call but a start was given an image
 abbrev pub Later : Request → Type 0
 Later (startWith w f) = ⊥
 Later (translate k a ac) = Unit {0}

@@ -83,6 +83,7 @@ abbrev pub noInvpcid : Image → ℕ → ℕ → ℕ → Bool
 noInvpcid s t p a =
     ltb 3 t || ltb 4095 p || (eqb t 0 && not (canonical (control s) a)) || (leb t 1 && not (pcide (s .flags)) && not (eqb p 0))
 
+-- the flags of a start are judged as those of a mode write on the image that a start with none makes: flags 0 and CR3 0
 abbrev pub refusals : List ℕ → Memory → Request → List Refusal
 refusals b mem (startWith w f) = 2 if (not (isLong b) || isOutside w) ∷ 7 if noMode (started w 0) f ∷ []
 refusals b mem (translate k a ac) =

@@ -216,23 +216,6 @@ pub start-covers : (covered global 0x2000 (readGlobal read) empty (startWith 40 
 unfolding bytes encode decode
 start-covers = (refl, refl, (refl, refl))
 
--- one that turns paging on leaves the root 0 in force until the CR3 write, which does not cover global slots: (a) does not hold. A saved state that is loaded
--- with paging off first stands under (a), whatever memory is given: its mode write covers everything
-abbrev startedPaged : History
-startedPaged = begun (replicate 2048 0) 40 23 refl then writeCr3 0x1000 with empty
-
-pub not-a-paged : (mem : Memory) → RootA startedPaged mem 0x1000 → ⊥
-unfolding bytes encode decode
-not-a-paged mem c = let z : _≡_ {A = ℕ} 0x0000 0x1000 = c .root-global .1 in omega arith
-
-abbrev loaded : History
-loaded = begun (replicate 2048 0) 40 22 refl then writeCr3 0x1000 with empty then writeMode 31 with empty then writeCr3 0x1005 with empty
-
-pub under-a-loaded : (mem : Memory) → RootA loaded mem 0x1000
-unfolding bytes encode decode
-under-a-loaded mem =
-    record { root-global = (refl, (refl, tt)); root-others = (refl, tt); memory-global = tt; memory-others = tt }
-
 -- ---- a batch: in one call a page is read, written to and written to again. The third of its calls is answered by the buffer, and is the write that stands
 -- under (a); the batch before it, with too few answer bytes, is no call. Then the guest changed its table and did not invalidate
 abbrev readyDoors : Doors

@@ -6,5 +6,4 @@ pub mod Origins
 pub mod Answers
 pub mod Spans
 pub mod Equality
-pub mod Loading
 pub mod Examples

@@ -4,4 +4,3 @@ pub mod Covers
 pub mod Spans
 pub mod Claims
 pub mod Drops
-pub mod Loading

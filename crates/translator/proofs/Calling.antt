@@ -55,7 +55,7 @@ module _ (w f n : ℕ) (b b₁ : List ℕ) (h : n ≡ refusal b empty (startWith
         let q : b₃ ≡ encode (started w f) = e ∙ ap (λ (x : List ℕ). wordPut x 8 f) sized ∙ started-bytes w f in
         accepts (startWith w f) b b₃ n Done (λ mem. refl) h z (λ mem. λ i. record { answer = Done; image = q i; memory = mem })
 
--- ---- a call other than start that is accepted was given an image
+-- ---- a call other than a start that is accepted was given an image
 pub call-long : (q : Request) (b : List ℕ) (mem : Memory) (n : ℕ) → Later q → n ≡ refusal b mem q → n ≡ 0 → length b ≡ 2048
 call-long q b mem n l h z = fits q b mem l (sym h ∙ z) .long
 

@@ -1,3 +1,3 @@
 // The calls on the host's bytes.
-pub mod calls; // calls.rt: start and the invalidating calls
+pub mod calls; // calls.rt: the starts and the invalidating calls
 pub mod translation; // translation.rt: translate

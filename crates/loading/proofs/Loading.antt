@@ -20,10 +20,11 @@ use Rattle.rules.proofs.BoolLaws.{or-left}
 use Rattle.rules.proofs.CallLaws.{call-accepted}
 use Rattle.rules.proofs.CallWays.{Way, unpaged, answered, walks, way, walked-cases}
 use Rattle.rules.proofs.RefusalLaws.{mode-flags, given}
-use Rattle.rules.proofs.StartLaws.{bare, bare-says, bare-fits, bare-stays}
+use Rattle.rules.proofs.FitLaws.{Ranged}
+use Rattle.rules.proofs.StartLaws.{bare, bare-ranged, bare-says, bare-fits, bare-stays}
 use Rattle.sequences.specs.History.{History, begun, _then_with_, bytes, image, Accepted}
-use Rattle.sequences.specs.Loading.{earlyFlags, rootAlone, first, second, third, Loads, Loading}
+use Rattle.loading.specs.Loading.{earlyFlags, rootAlone, first, second, third, Loads, Loading}
 use Rattle.sequences.proofs.Images.{image-start, image-cases}
 
 -- ---- what is asked of a state: a width; flags that a start takes; CR3 below the width
 record IsState (w f v : ℕ) : Type 0 where
@@ -58,24 +59,24 @@ mode-fits : (w e c f : ℕ) → noMode (started w 0) f ≡ false → c % 4096 �
 mode-fits w e c f h z = rw (or-left (noFlags f || (pcide f && not (pg f))) _ h, eq-eqb (c / 1 % 4096) 0 (omega arith), and-false)
 
 -- ---- an image that holds nothing, after a write of CR3 and of its flags
-module _ (mem : Memory) (w f c : ℕ) (wide : 36 ≤ w) (narrow : w ≤ 52) (flags : f < 2 ^ 7) (fits : c < 2 ^ 64) where
+module _ (mem : Memory) (w f c : ℕ) (r : Ranged (bare w f c)) (fits : c < 2 ^ 64) where
   says : decode (encode (bare w f c)) ≡ bare w f c
-  says = bare-says w f c wide narrow flags fits
+  says = bare-says w f c r fits
 
   module _ (v : ℕ) (h : v < 2 ^ w) where
     written : refusal (encode (bare w f c)) mem (writeCr3 v) ≡ 0
-    written = rw (bare-fits w f c wide narrow flags fits, says, cr3-fits w f c v narrow h)
+    written = rw (bare-fits w f c r fits, says, cr3-fits w f c v (r .narrow) h)
 
     cr3-left : call (encode (bare w f c)) mem (writeCr3 v) .image ≡ encode (bare w f v)
     cr3-left =
-        let t : v % 2 ^ 63 ≡ v = mod-eq-of-lt (lt-of-lt-of-le h (pow-mono {i = w} {j = 63} (omega arith))) in
+        let t : v % 2 ^ 63 ≡ v = mod-eq-of-lt (lt-of-lt-of-le h (pow-mono {i = w} {j = 63} (omega (arith, r .narrow)))) in
         ap (λ (o : Outcome). o .image) (call-accepted (encode (bare w f c)) mem (writeCr3 v) written)
         ∙ ap (λ (s : Image). encode (dropped (λ i u. not (isOn 63 v) && ofPcid (pcid (withCr3 (v % 2 ^ 63) s)) u) (withCr3 (v % 2 ^ 63) s))) says
         ∙ ap encode (bare-stays (λ i u. not (isOn 63 v) && ofPcid (pcid (bare w f (v % 2 ^ 63))) u) w f (v % 2 ^ 63) ∙ ap (bare w f) t)
 
   module _ (m : ℕ) (h : noMode (bare w f c) m ≡ false) where
     switched : refusal (encode (bare w f c)) mem (writeMode m) ≡ 0
-    switched = rw (bare-fits w f c wide narrow flags fits, says, h)
+    switched = rw (bare-fits w f c r fits, says, h)
 
     mode-left : call (encode (bare w f c)) mem (writeMode m) .image ≡ encode (bare w m c)
     mode-left =
@@ -97,30 +98,29 @@ module _ (b : List ℕ) (mem : Memory) (w f v : ℕ) (long : length b ≡ 2048) 
   early-left : first b mem w f ≡ encode (bare w (earlyFlags f) 0)
   early-left = ap (λ (o : Outcome). o .image) (call-accepted b mem (startWith w (earlyFlags f)) early-taken)
 
-  flags-low : f < 2 ^ 7
-  flags-low = mode-flags (started w 0) f (state .mode)
-
-  cr3-low : v < 2 ^ 64
-  cr3-low = lt-of-lt-of-le (state .cr3) (pow-mono {i = w} {j = 64} (omega (arith, state .narrow)))
+  ranged : (e c : ℕ) → e < 2 ^ 7 → Ranged (bare w e c)
+  ranged e c h = bare-ranged w e c (state .wide) (state .narrow) h
 
   loads : Loads b mem w f v
   loads =
-      let e : earlyFlags f < 2 ^ 7 = omega (arith, flags-low) in
+      let h : f < 2 ^ 7 = mode-flags (started w 0) f (state .mode) in
+      let e : earlyFlags f < 2 ^ 7 = omega arith in
       let c : rootAlone v < 2 ^ w = omega (arith, state .cr3) in
-      let d : rootAlone v < 2 ^ 64 = omega (arith, cr3-low) in
+      let d : rootAlone v < 2 ^ 64 = lt-of-lt-of-le c (pow-mono {i = w} {j = 64} (omega (arith, state .narrow))) in
       let m : noMode (bare w (earlyFlags f) (rootAlone v)) f ≡ false = mode-fits w (earlyFlags f) (rootAlone v) f (state .mode) (omega arith) in
+      let one : Ranged (bare w (earlyFlags f) 0) = ranged (earlyFlags f) 0 e in
+      let two : Ranged (bare w (earlyFlags f) (rootAlone v)) = ranged (earlyFlags f) (rootAlone v) e in
+      let three : Ranged (bare w f (rootAlone v)) = ranged f (rootAlone v) h in
       let q : second b mem w f v ≡ encode (bare w (earlyFlags f) (rootAlone v)) =
-      ap (λ (x : List ℕ). call x mem (writeCr3 (rootAlone v)) .image) early-left ∙ cr3-left mem w (earlyFlags f) 0 (state .wide) (state .narrow) e (omega arith) (rootAlone v) c in
+      ap (λ (x : List ℕ). call x mem (writeCr3 (rootAlone v)) .image) early-left ∙ cr3-left mem w (earlyFlags f) 0 one (omega arith) (rootAlone v) c in
       let r : third b mem w f v ≡ encode (bare w f (rootAlone v)) =
-      ap (λ (x : List ℕ). call x mem (writeMode f) .image) q ∙ mode-left mem w (earlyFlags f) (rootAlone v) (state .wide) (state .narrow) e d f m in
+      ap (λ (x : List ℕ). call x mem (writeMode f) .image) q ∙ mode-left mem w (earlyFlags f) (rootAlone v) two d f m in
       record {
         start-taken = early-taken;
-        root-taken = rw early-left (written mem w (earlyFlags f) 0 (state .wide) (state .narrow) e (omega arith) (rootAlone v) c);
-        mode-taken = rw q (switched mem w (earlyFlags f) (rootAlone v) (state .wide) (state .narrow) e d f m);
-        cr3-taken = rw r (written mem w f (rootAlone v) (state .wide) (state .narrow) flags-low d v (state .cr3));
-        left =
-            ap (λ (x : List ℕ). call x mem (writeCr3 v) .image) r
-            ∙ cr3-left mem w f (rootAlone v) (state .wide) (state .narrow) flags-low d v (state .cr3);
+        root-taken = rw early-left (written mem w (earlyFlags f) 0 one (omega arith) (rootAlone v) c);
+        mode-taken = rw q (switched mem w (earlyFlags f) (rootAlone v) two d f m);
+        cr3-taken = rw r (written mem w f (rootAlone v) three d v (state .cr3));
+        left = ap (λ (x : List ℕ). call x mem (writeCr3 v) .image) r ∙ cr3-left mem w f (rootAlone v) three d v (state .cr3);
       }
 
 -- ---- each call keeps it
@@ -138,11 +138,12 @@ stored-low w v n h =
     let f : v % 2 ^ 63 / 2 ^ w ≡ 0 = rw q at (field v (63 - w) w) ∙ no-multiple (v / 2 ^ w % 2 ^ (63 - w)) (2 ^ w) (pow-pos w) h in
     omega (arith, div-lt-iff-lt-mul {x = v % 2 ^ 63} {y = 1} (pow-pos w) .0 (omega arith))
 
+start-keeps : (b : List ℕ) (mem : Memory) (w f : ℕ) → refusal b mem (startWith w f) ≡ 0 → Kept (started w f)
+start-keeps b mem w f ok = let g = given b mem (startWith w f) ok in record { wide = g .1; narrow = g .2; mode = g .3; cr3 = pow-pos w }
+
 module _ (h : History) (mem : Memory) (old : Kept (image h)) where
   keeps : (q : Request) → Accepted h mem q → Kept (accepted (image h) mem q .image)
-  keeps (startWith w f) ok =
-      let g = given (bytes h) mem (startWith w f) ok in
-      record { wide = g .1; narrow = g .2; mode = g .3; cr3 = pow-pos w }
+  keeps (startWith w f) ok = start-keeps (bytes h) mem w f ok
   keeps (translate k a ac) ok = way-keeps (way (image h) mem (accessOf k ac) a)
     where
       way-keeps : {o : After} → Way (image h) mem (accessOf k ac) a o → Kept (o .image)
@@ -168,9 +169,7 @@ module _ (h : History) (mem : Memory) (old : Kept (image h)) where
       }
 
 kept : (h : History) → Kept (image h)
-kept (begun b w f ok) =
-    let g = given b empty (startWith w f) ok in
-    subst Kept (sym (image-start b w f ok)) (record { wide = g .1; narrow = g .2; mode = g .3; cr3 = pow-pos w })
+kept (begun b w f ok) = subst Kept (sym (image-start b w f ok)) (start-keeps b empty w f ok)
 kept (h then q with mem) = image-cases h mem q Kept (keeps h mem (kept h) q) (λ n e. kept h)
 
 pub loading : Loading

@@ -1,0 +1,1 @@
+// How a saved state is loaded: the statement in specs/, its proof in proofs/. There is no code here.
