@@ -1,5 +1,5 @@
 -- Cases of starts, plain and with flags, as one list under one claim. The guest is that of `OwnCases`: at 0x6000 it has a page that is not writable.
-use Prim.Native.Nat.{ℕ, _^_}
+use Prim.Native.Nat.{_^_}
 use mathlib.Core.Path.{refl}
 use mathlib.Core.List.{List, [], _∷_}
 use lib.ListN.{replicate}
