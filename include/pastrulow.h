@@ -186,9 +186,10 @@ uint64_t pastrulow_write_mode(uint8_t *image, size_t image_len, uint64_t flags, 
 
 /*
  * A saved state, which is a width, flags, and CR3 without bit 63, is loaded by four calls, always in this order: start_with the
- * flags less PG and PCIDE; the CR3 write with its low 12 bits 0, so that the root is there when paging is turned on, and PCIDE
- * can be (refusal 7); the mode write with all the flags; the CR3 write again, with the whole value. None is refused if calls
- * have led to that state before. The buffer is then empty, and no root but the saved one was in force while paging was on.
+ * width and the flags less PG and PCIDE; the CR3 write with its low 12 bits 0, so that the root is there when paging is turned
+ * on, and PCIDE can be (refusal 7); the mode write with all the flags; the CR3 write again, with the whole value. None is
+ * refused if calls have led to that state before. The buffer is then empty, and no root but the saved one was in force while
+ * paging was on.
  */
 
 /* The record, read. */

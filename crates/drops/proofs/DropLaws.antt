@@ -18,16 +18,13 @@ use Rattle.rules.specs.Buffer.{droppedIf, dropped}
 use Rattle.rules.proofs.WordLaws.{all-append, all-take, all-drop}
 use Rattle.rules.proofs.ImageLaws.{decode-encode}
 use Rattle.rules.proofs.PlaceLaws.{is-encoded, sound-dropped}
+use Rattle.rules.proofs.SlotLaws.{none-anyway}
 use Rattle.sets.specs.Ways.{tagIn}
 use Rattle.drops.specs.Drops.{droppedIn, isFrom, everyFrom}
 
 -- ---- images
 abbrev withSlots : Image → (ℕ → Slot) → Image
 withSlots s f = record { width = s .width; flags = s .flags; cr3 = s .cr3; victims = s .victims; slots = f }
-
-none-anyway : (b : Bool) → cond b none none ≡ none
-none-anyway true = refl
-none-anyway false = refl
 
 twice : (p q : ℕ → ℕ → Bool) (s : Image) → dropped q (dropped p s) ≡ dropped (λ i t. p i t || q i t) s
 twice p q s = ap (withSlots s) (fun-ext (λ i. go i (p i (s .slots i .tag)) (s .slots i)))

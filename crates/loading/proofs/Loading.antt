@@ -1,12 +1,12 @@
 -- A state that a history has led to is loaded by four calls. Each call keeps what the four ask of a state; an image that holds nothing has nothing to drop, so each of them
 -- writes its word and no more.
-use Prim.Native.Nat.{ℕ, zero, suc, _+_, _-_, _*_, _/_, _%_, _^_, _≤_, _<_}
-use mathlib.Core.Path.{_≡_, refl, ap, sym, _∙_, subst}
+use Prim.Native.Nat.{ℕ, _+_, _-_, _*_, _/_, _%_, _^_, _≤_, _<_}
+use mathlib.Core.Path.{_≡_, ap, sym, _∙_, subst}
 use mathlib.Core.Bool.{false, _||_, _&&_, not, and-false}
 use mathlib.Core.List.{List}
 use native.Mathlib.Omega.{arith}
-use native.Mathlib.Nat.{div-eq-of-lt, div-lt-iff-lt-mul, mod-eq-of-lt, lt-of-lt-of-le, zero-mul, mul-pos}
-use lib.Pow.{pow-pos, pow-mono, field}
+use native.Mathlib.Nat.{div-eq-of-lt, mod-eq-of-lt, mod-lt, lt-of-lt-of-le, zero-mul}
+use lib.Pow.{pow-pos, pow-mono, mod-pow-add}
 use lib.ListN.{length}
 use borrow.Author.Tests.{eq-eqb, ne-eqb, le-ltb, lt-leb, eqb-true, not-false}
 use Rattle.rules.specs.Bits.{isOn, part, one}
@@ -23,7 +23,7 @@ use Rattle.rules.proofs.RefusalLaws.{mode-flags, given}
 use Rattle.rules.proofs.FitLaws.{Ranged}
 use Rattle.rules.proofs.StartLaws.{bare, bare-ranged, bare-says, bare-fits, bare-stays}
 use Rattle.sequences.specs.History.{History, begun, _then_with_, bytes, image, Accepted}
-use Rattle.loading.specs.Loading.{earlyFlags, rootAlone, first, second, third, Loads, Loading}
+use Rattle.loading.specs.Loading.{earlyFlags, rootAlone, afterStart, afterRoot, afterMode, Loads, Loading}
 use Rattle.sequences.proofs.Images.{image-start, image-cases}
 
 -- ---- what is asked of a state: a width; flags that a start takes; CR3 below the width
@@ -95,7 +95,7 @@ module _ (b : List ℕ) (mem : Memory) (w f v : ℕ) (long : length b ≡ 2048) 
         early-fits w f (state .mode),
       )
 
-  early-left : first b mem w f ≡ encode (bare w (earlyFlags f) 0)
+  early-left : afterStart b mem w f ≡ encode (bare w (earlyFlags f) 0)
   early-left = ap (λ (o : Outcome). o .image) (call-accepted b mem (startWith w (earlyFlags f)) early-taken)
 
   ranged : (e c : ℕ) → e < 2 ^ 7 → Ranged (bare w e c)
@@ -108,48 +108,44 @@ module _ (b : List ℕ) (mem : Memory) (w f v : ℕ) (long : length b ≡ 2048) 
       let c : rootAlone v < 2 ^ w = omega (arith, state .cr3) in
       let d : rootAlone v < 2 ^ 64 = lt-of-lt-of-le c (pow-mono {i = w} {j = 64} (omega (arith, state .narrow))) in
       let m : noMode (bare w (earlyFlags f) (rootAlone v)) f ≡ false = mode-fits w (earlyFlags f) (rootAlone v) f (state .mode) (omega arith) in
-      let one : Ranged (bare w (earlyFlags f) 0) = ranged (earlyFlags f) 0 e in
-      let two : Ranged (bare w (earlyFlags f) (rootAlone v)) = ranged (earlyFlags f) (rootAlone v) e in
-      let three : Ranged (bare w f (rootAlone v)) = ranged f (rootAlone v) h in
-      let q : second b mem w f v ≡ encode (bare w (earlyFlags f) (rootAlone v)) =
-      ap (λ (x : List ℕ). call x mem (writeCr3 (rootAlone v)) .image) early-left ∙ cr3-left mem w (earlyFlags f) 0 one (omega arith) (rootAlone v) c in
-      let r : third b mem w f v ≡ encode (bare w f (rootAlone v)) =
-      ap (λ (x : List ℕ). call x mem (writeMode f) .image) q ∙ mode-left mem w (earlyFlags f) (rootAlone v) two d f m in
+      let r₁ : Ranged (bare w (earlyFlags f) 0) = ranged (earlyFlags f) 0 e in
+      let r₂ : Ranged (bare w (earlyFlags f) (rootAlone v)) = ranged (earlyFlags f) (rootAlone v) e in
+      let r₃ : Ranged (bare w f (rootAlone v)) = ranged f (rootAlone v) h in
+      let q : afterRoot b mem w f v ≡ encode (bare w (earlyFlags f) (rootAlone v)) =
+      ap (λ (x : List ℕ). call x mem (writeCr3 (rootAlone v)) .image) early-left ∙ cr3-left mem w (earlyFlags f) 0 r₁ (omega arith) (rootAlone v) c in
+      let r : afterMode b mem w f v ≡ encode (bare w f (rootAlone v)) =
+      ap (λ (x : List ℕ). call x mem (writeMode f) .image) q ∙ mode-left mem w (earlyFlags f) (rootAlone v) r₂ d f m in
       record {
         start-taken = early-taken;
-        root-taken = rw early-left (written mem w (earlyFlags f) 0 one (omega arith) (rootAlone v) c);
-        mode-taken = rw q (switched mem w (earlyFlags f) (rootAlone v) two d f m);
-        cr3-taken = rw r (written mem w f (rootAlone v) three d v (state .cr3));
-        left = ap (λ (x : List ℕ). call x mem (writeCr3 v) .image) r ∙ cr3-left mem w f (rootAlone v) three d v (state .cr3);
+        root-taken = rw early-left (written mem w (earlyFlags f) 0 r₁ (omega arith) (rootAlone v) c);
+        mode-taken = rw q (switched mem w (earlyFlags f) (rootAlone v) r₂ d f m);
+        cr3-taken = rw r (written mem w f (rootAlone v) r₃ d v (state .cr3));
+        left = ap (λ (x : List ℕ). call x mem (writeCr3 v) .image) r ∙ cr3-left mem w f (rootAlone v) r₃ d v (state .cr3);
       }
 
 -- ---- each call keeps it
-abbrev Kept : Image → Type 0
-Kept s = IsState (s .width) (s .flags) (s .cr3)
-
-no-multiple : (x y : ℕ) → 0 < y → x * y ≡ 0 → x ≡ 0
-no-multiple zero y g h = refl
-no-multiple (suc x) y g h = absurd (omega (arith, mul-pos {m = suc x} {n = y} (omega arith) g))
+abbrev InState : Image → Type 0
+InState s = IsState (s .width) (s .flags) (s .cr3)
 
 -- what a CR3 write takes has no bit from the width up, but for bit 63, which is not stored
 stored-low : (w v : ℕ) → w ≤ 52 → part 63 w v ≡ 0 → v % 2 ^ 63 < 2 ^ w
 stored-low w v n h =
     let q : 63 - w + w ≡ 63 = omega arith in
-    let f : v % 2 ^ 63 / 2 ^ w ≡ 0 = rw q at (field v (63 - w) w) ∙ no-multiple (v / 2 ^ w % 2 ^ (63 - w)) (2 ^ w) (pow-pos w) h in
-    omega (arith, div-lt-iff-lt-mul {x = v % 2 ^ 63} {y = 1} (pow-pos w) .0 (omega arith))
+    let d : v % 2 ^ 63 ≡ part 63 w v + v % 2 ^ w = rw q at (mod-pow-add v (63 - w) w) in
+    omega (arith, mod-lt v (pow-pos w))
 
-start-keeps : (b : List ℕ) (mem : Memory) (w f : ℕ) → refusal b mem (startWith w f) ≡ 0 → Kept (started w f)
+start-keeps : (b : List ℕ) (mem : Memory) (w f : ℕ) → refusal b mem (startWith w f) ≡ 0 → InState (started w f)
 start-keeps b mem w f ok = let g = given b mem (startWith w f) ok in record { wide = g .1; narrow = g .2; mode = g .3; cr3 = pow-pos w }
 
-module _ (h : History) (mem : Memory) (old : Kept (image h)) where
-  keeps : (q : Request) → Accepted h mem q → Kept (accepted (image h) mem q .image)
+module _ (h : History) (mem : Memory) (old : InState (image h)) where
+  keeps : (q : Request) → Accepted h mem q → InState (accepted (image h) mem q .image)
   keeps (startWith w f) ok = start-keeps (bytes h) mem w f ok
   keeps (translate k a ac) ok = way-keeps (way (image h) mem (accessOf k ac) a)
     where
-      way-keeps : {o : After} → Way (image h) mem (accessOf k ac) a o → Kept (o .image)
+      way-keeps : {o : After} → Way (image h) mem (accessOf k ac) a o → InState (o .image)
       way-keeps (unpaged off) = old
       way-keeps (answered on i e g) = old
-      way-keeps (walks on un) = walked-cases (image h) mem (accessOf k ac) a Kept old (λ p i v g. old)
+      way-keeps (walks on un) = walked-cases (image h) mem (accessOf k ac) a InState old (λ p i v g. old)
   keeps (invlpg a) ok = old
   keeps (invpcid t p a) ok = old
   keeps (writeCr3 v) ok =
@@ -168,9 +164,9 @@ module _ (h : History) (mem : Memory) (old : Kept (image h)) where
         cr3 = old .cr3;
       }
 
-kept : (h : History) → Kept (image h)
-kept (begun b w f ok) = subst Kept (sym (image-start b w f ok)) (start-keeps b empty w f ok)
-kept (h then q with mem) = image-cases h mem q Kept (keeps h mem (kept h) q) (λ n e. kept h)
+in-state : (h : History) → InState (image h)
+in-state (begun b w f ok) = subst InState (sym (image-start b w f ok)) (start-keeps b empty w f ok)
+in-state (h then q with mem) = image-cases h mem q InState (keeps h mem (in-state h) q) (λ n e. in-state h)
 
 pub loading : Loading
-loading h b mem long = loads b mem (image h .width) (image h .flags) (image h .cr3) long (kept h)
+loading h b mem long = loads b mem (image h .width) (image h .flags) (image h .cr3) long (in-state h)

@@ -17,23 +17,23 @@ earlyFlags f = f - one (pg f) - 8 * one (pcide f)
 abbrev pub rootAlone : ℕ → ℕ
 rootAlone v = v - v % 4096
 
--- ---- the bytes after the first, the second and the third
-abbrev pub first : List ℕ → Memory → ℕ → ℕ → List ℕ
-first b mem w f = call b mem (startWith w (earlyFlags f)) .image
+-- ---- the bytes after each of the first three
+abbrev pub afterStart : List ℕ → Memory → ℕ → ℕ → List ℕ
+afterStart b mem w f = call b mem (startWith w (earlyFlags f)) .image
 
-abbrev pub second : List ℕ → Memory → ℕ → ℕ → ℕ → List ℕ
-second b mem w f v = call (first b mem w f) mem (writeCr3 (rootAlone v)) .image
+abbrev pub afterRoot : List ℕ → Memory → ℕ → ℕ → ℕ → List ℕ
+afterRoot b mem w f v = call (afterStart b mem w f) mem (writeCr3 (rootAlone v)) .image
 
-abbrev pub third : List ℕ → Memory → ℕ → ℕ → ℕ → List ℕ
-third b mem w f v = call (second b mem w f v) mem (writeMode f) .image
+abbrev pub afterMode : List ℕ → Memory → ℕ → ℕ → ℕ → List ℕ
+afterMode b mem w f v = call (afterRoot b mem w f v) mem (writeMode f) .image
 
 -- ---- none is refused, and the last leaves the image of that state, in which nothing is held
 pub record Loads (b : List ℕ) (mem : Memory) (w f v : ℕ) : Type 0 where
   pub start-taken : refusal b mem (startWith w (earlyFlags f)) ≡ 0
-  pub root-taken : refusal (first b mem w f) mem (writeCr3 (rootAlone v)) ≡ 0
-  pub mode-taken : refusal (second b mem w f v) mem (writeMode f) ≡ 0
-  pub cr3-taken : refusal (third b mem w f v) mem (writeCr3 v) ≡ 0
-  pub left : call (third b mem w f v) mem (writeCr3 v) .image ≡ encode (withCr3 v (started w f))
+  pub root-taken : refusal (afterStart b mem w f) mem (writeCr3 (rootAlone v)) ≡ 0
+  pub mode-taken : refusal (afterRoot b mem w f v) mem (writeMode f) ≡ 0
+  pub cr3-taken : refusal (afterMode b mem w f v) mem (writeCr3 v) ≡ 0
+  pub left : call (afterMode b mem w f v) mem (writeCr3 v) .image ≡ encode (withCr3 v (started w f))
 
 -- whatever state a history has led to
 abbrev pub Loading : Type 0

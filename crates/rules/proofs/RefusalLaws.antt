@@ -51,11 +51,11 @@ pub fit-image : (b : List ℕ) → AreBytes b → Fit b → IsImage b
 fit-image b bytes f = image-of b bytes (f .long) (f .tail)
 
 -- ---- a list of refusals that gives 0
-abbrev Passed : List Refusal → Type 0
+abbrev pub Passed : List Refusal → Type 0
 Passed [] = Unit {0}
 Passed (r ∷ rs) = (r .applies ≡ false) × Passed rs
 
-passed : (rs : List Refusal) → Above 0 rs → lowest rs ≡ 0 → Passed rs
+pub passed : (rs : List Refusal) → Above 0 rs → lowest rs ≡ 0 → Passed rs
 passed [] above h = tt
 passed (r ∷ rs) above h = go (r .applies) refl h (passed rs (above .1))
   where

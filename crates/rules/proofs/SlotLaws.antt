@@ -29,6 +29,11 @@ pub stored-front : (i : ℕ) (t : Slot) (s : Image) → front (stored i t s) ≡
 stored-front i t s = refl
 
 -- ---- a drop
+-- an empty slot stays empty
+pub none-anyway : (b : Bool) → cond b none none ≡ none
+none-anyway true = refl
+none-anyway false = refl
+
 module _ (p : ℕ → ℕ → Bool) (s : Image) where
   pub dropped-named : (i : ℕ) → p i (s .slots i .tag) ≡ true → dropped p s .slots i ≡ none
   dropped-named i h = rw h

@@ -2,20 +2,21 @@
 -- write of them.
 use Prim.Native.Nat.{ℕ, _^_, _≤_, _<_}
 use mathlib.Core.Path.{_≡_, refl, ap, sym, _∙_}
-use mathlib.Core.Bool.{Bool, true, false, cond, _||_, not}
+use mathlib.Core.Bool.{Bool, false, cond, _||_, not}
 use mathlib.Core.List.{List}
 use native.Mathlib.Omega.{arith}
 use lib.ListN.{length}
-use Rattle.rules.specs.Image.{Image, none, started, encode, decode, Sound}
+use Rattle.rules.specs.Image.{Image, started, encode, decode, Sound}
 use Rattle.rules.specs.Memory.{Memory}
 use Rattle.rules.specs.Buffer.{dropped}
-use Rattle.rules.specs.Refusals.{startWith, start, writeMode, isLong, isOutside, isUnfit, refusal}
+use Rattle.rules.specs.Refusals.{startWith, start, writeMode, isLong, isOutside, isUnfit, refusals, refusal}
 use Rattle.rules.specs.Calls.{withCr3, withFlags, sameMode, Outcome, call}
 use Rattle.rules.specs.declared.Answer.the-variants.{Done}
 use Rattle.rules.proofs.ImageLaws.{decode-encode}
 use Rattle.rules.proofs.PlaceLaws.{sound-cr3}
+use Rattle.rules.proofs.SlotLaws.{none-anyway}
 use Rattle.rules.proofs.CallLaws.{call-accepted}
-use Rattle.rules.proofs.RefusalLaws.{given}
+use Rattle.rules.proofs.RefusalLaws.{passed, given}
 use Rattle.rules.proofs.SoundLaws.{sound-started}
 use Rattle.rules.proofs.FitLaws.{fit-passes, Ranged, fit-encoded}
 
@@ -44,18 +45,10 @@ module _ (w f c : ℕ) (r : Ranged (bare w f c)) (cr3 : c < 2 ^ 64) where
   pub bare-fits : isUnfit (encode (bare w f c)) ≡ false
   bare-fits = fit-passes (encode (bare w f c)) (fit-encoded (bare w f c) bare-sound r)
 
-none-dropped : (x : Bool) → cond x none none ≡ none
-none-dropped true = refl
-none-dropped false = refl
-
 pub bare-stays : (p : ℕ → ℕ → Bool) (w f c : ℕ) → dropped p (bare w f c) ≡ bare w f c
-bare-stays p w f c = λ j. record { width = w; flags = f; cr3 = c; victims = 0; slots = λ i. none-dropped (p i 0) j }
+bare-stays p w f c = λ j. record { width = w; flags = f; cr3 = c; victims = 0; slots = λ i. none-anyway (p i 0) j }
 
 -- ---- where a start with no flags is taken, one with flags is refused exactly as the mode write after it is, and else leaves the same
-not-two : (x : Bool) → _≡_ {A = ℕ} (cond x 2 0) 0 → x ≡ false
-not-two true h = absurd (omega arith)
-not-two false h = refl
-
 module _ (b : List ℕ) (mem : Memory) (w f : ℕ) (ok : refusal b mem (startWith w 0) ≡ 0) where
   abbrev after : List ℕ
   after = call b mem (startWith w 0) .image
@@ -68,7 +61,7 @@ module _ (b : List ℕ) (mem : Memory) (w f : ℕ) (ok : refusal b mem (startWit
 
   pub as-mode-write : refusal b mem (startWith w f) ≡ refusal after mem (writeMode f)
   as-mode-write =
-      rw (not-two (not (isLong b) || isOutside w) ok, after-is, bare-fits w 0 0 after-ranged (omega arith), bare-says w 0 0 after-ranged (omega arith))
+      rw (passed (refusals b mem (startWith w 0)) (omega arith) ok .0, after-is, bare-fits w 0 0 after-ranged (omega arith), bare-says w 0 0 after-ranged (omega arith))
 
   pub leaves-mode : refusal b mem (startWith w f) ≡ 0 → call b mem (startWith w f) ≡ call after mem (writeMode f)
   leaves-mode h =
