@@ -13,14 +13,14 @@ use sets::size::{Page1G, Page2M, Page4K};
 use sets::{size, tags};
 
 // Where a page is held: the place of a slot among the slots, in bytes, and the length of its page.
-#[derive(Drop)]
+#[derive(Clone, Copy)]
 pub enum Place {
     At(usize, u64),
     Nowhere,
 }
 
 // Where looking up begins: the small slot that holds the page; or, where none does, the first of the larger sizes whose set is in use.
-#[derive(Drop)]
+#[derive(Clone, Copy)]
 pub enum Start {
     Small(usize),
     Middle,

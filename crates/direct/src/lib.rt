@@ -1,5 +1,7 @@
 // Translation of one address straight into a record, for the door: a small page that is held is answered at once, and all else goes on in steps. A step that cannot answer calls the
 // next one last, with what it was given and in that order, so that little is moved on the way.
+#![tactic(auto)]
+
 ghost use Rattle.std.specs.Prelude.{◌≡◌, ◌++◌, length};
 ghost use Rattle.rules.specs.Image.{decode};
 ghost use Rattle.rules.specs.Memory.{both};

@@ -1,5 +1,7 @@
 // Dropping in the image's bytes: whatever a drop goes by, it is a compare of the tag under a mask, over a range of slots; and a second one, of whose it is,
 // that global tags need not pass.
+#![tactic(auto)]
+
 ghost use Rattle.std.specs.Prelude.{◌≡◌, ◌+◌, ◌*◌, ◌≤◌, ◌<◌, length, take, drop};
 ghost use Rattle.rules.specs.Sizes.{Is, ways};
 ghost use Rattle.rules.specs.Image.{IsImage};

@@ -1,5 +1,7 @@
 // Which bits of an entry are reserved: a row for each of the manual's tables of entry formats, in its order, as in the rules' `Formats`. A row is written in ranges,
 // which a compiler makes one constant.
+#![tactic(auto)]
+
 ghost use Rattle.std.specs.Prelude.{◌≡◌, ◌+◌, ◌≤◌, ◌<◌, ◌∷◌};
 ghost use Rattle.rules.specs.Formats.{◌‥◌, xd, rows, ranges_of};
 ghost use Rattle.formats.specs.Ranges.{ones_in, mask_of};

@@ -1,5 +1,7 @@
 // The fault journal of request W-202: faults are reported to 2,624 lent bytes, which keep the first report of each, how often it came again, and how
 // many were lost.
+#![tactic(auto)]
+
 ghost use Rattle.std.specs.Prelude.{◌≡◌, ◌||◌, [], ◌∷◌, ◌+◌, ◌≤◌, ◌<◌, ltb, length};
 ghost use Rattle.rules.specs.Bits.{word_at, word_put, bytes_of_all};
 ghost use Rattle.journal.specs.Journal.{is_same, limit, encode, decode, IsJournal};

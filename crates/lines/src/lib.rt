@@ -1,4 +1,6 @@
 // One line of a trace: what it asks for is done, and its answer is printed.
+#![tactic(auto)]
+
 ghost use Rattle.std.specs.Prelude.{◌≡◌, length};
 ghost use Rattle.trace.specs.Does.{does, is_place};
 ghost use Rattle.lines.specs.Line.{Gives, Stores, Lines};

@@ -1,4 +1,6 @@
 // Translation of many addresses in one call: what each is answered, and what is left, are those of single calls made one by one.
+#![tactic(auto)]
+
 ghost use Rattle.std.specs.Prelude.{◌≡◌, length};
 ghost use Rattle.rules.specs.Memory.{both};
 ghost use Rattle.rules.specs.Refusals.{translate};

@@ -1,4 +1,6 @@
 // The numbers of a call: the PCID, a slot's two words, an access and what it asks of a page, whether a held page serves and its address, the code of a fault.
+#![tactic(auto)]
+
 ghost use Rattle.std.specs.Prelude.{◌≡◌, length, ◌+◌, ◌*◌, ◌/◌, ◌%◌, ◌^◌, ◌≤◌, ◌<◌};
 ghost use Rattle.rules.specs.Image.{decode, tag_of, datum_of};
 ghost use Rattle.rules.specs.Entries.{keeps_off};

@@ -1,4 +1,6 @@
 // The page lookup as C can call it, for the test that holds the header's own lookup to it.
+#![tactic(auto)]
+
 ghost use Rattle.std.specs.Prelude.{◌≡◌};
 ghost use Rattle.rules.specs.Memory.{both, entry_in, page_of};
 

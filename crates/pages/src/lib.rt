@@ -1,4 +1,6 @@
 // The page lookup: the 4 KiB page that holds a physical address, handed back as a part of low or of high.
+#![tactic(auto)]
+
 ghost use Rattle.std.specs.Prelude.{◌≡◌};
 ghost use Rattle.rules.specs.Memory.{both, page_of_part, page_of};
 

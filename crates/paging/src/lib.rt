@@ -1,4 +1,6 @@
 // An accepted translation with paging on: from the buffer where a held page serves, else by the walk, whose finding is kept.
+#![tactic(auto)]
+
 ghost use Rattle.std.specs.Prelude.{◌≡◌, ◌%◌, ◌^◌, ◌<◌, length};
 ghost use Rattle.rules.specs.Image.{encode, decode, control, IsImage};
 ghost use Rattle.rules.specs.Memory.{both, Whole};
@@ -14,7 +16,7 @@ use rules::{Answer, Control, Found, Rights, Size};
 use sets::size;
 
 // What is held for an address: a page that answers, by the physical address and the page's length; or nothing, once what does not answer has gone.
-#[derive(Drop)]
+#[derive(Clone, Copy)]
 pub enum Held {
     Page(u64, u64),
     Nothing,

@@ -1,5 +1,7 @@
 // The door for a host in C, which sees each slice as a pointer and then a length. A call answers in the 32 lent bytes and returns the refusal
 // number, or 0; where the answer bytes are not 32, it returns 1 and touches nothing. A call for many answers in 32 bytes a pair, and returns 10 or 0.
+#![tactic(auto)]
+
 ghost use Rattle.std.specs.Prelude.{◌≡◌};
 ghost use Rattle.rules.specs.Memory.{both};
 ghost use Rattle.rules.specs.Refusals.{start_with, start, translate, invlpg, invpcid, write_cr3, write_mode};

@@ -1,4 +1,6 @@
 // A trace's lines, written into lent bytes.
+#![tactic(auto)]
+
 ghost use Rattle.std.specs.Prelude.{◌≡◌, [], ◌∷◌, ◌++◌, map, ◌+◌, ◌≤◌, ◌<◌, length};
 ghost use Rattle.trace.specs.Text.{tab};
 ghost use Rattle.trace.specs.Numbers.{digits, byte_of, hex_of};
@@ -9,7 +11,7 @@ ghost use Rattle.printing.specs.Parts.{Counts, Holds};
 use trace::{FEED, TAB, Totals};
 
 // A word and a tab in eight bytes, lowest first; what stands after them does not count.
-#[derive(Drop)]
+#[derive(Clone, Copy)]
 struct Word {
     text: u64,
     length: usize,

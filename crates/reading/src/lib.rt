@@ -1,4 +1,6 @@
 // Lines of a trace, read: where one ends, and what it asks for, a letter and one to three numbers in hex digits.
+#![tactic(auto)]
+
 ghost use Rattle.std.specs.Prelude.{◌≡◌, ◌≤◌, length};
 ghost use Rattle.trace.specs.Text.{feed};
 ghost use Rattle.trace.specs.Numbers.{digit_of};
@@ -8,7 +10,7 @@ ghost use Rattle.reading.specs.Fields.{end_at, ended as ended_of, field_at};
 use trace::{FEED, Order, TAB};
 
 // A field's number, and where the next field starts: after the tab, or past the line's end by one.
-#[derive(Drop)]
+#[derive(Clone, Copy)]
 enum Found {
     Number { value: u64, next: usize },
     Bad,

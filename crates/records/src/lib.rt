@@ -1,4 +1,6 @@
 // The answer record: an answer as four words, in 32 lent bytes.
+#![tactic(auto)]
+
 ghost use Rattle.std.specs.Prelude.{◌≡◌, length};
 ghost use Rattle.records.specs.Record.{Holds, Recorded};
 

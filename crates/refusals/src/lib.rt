@@ -1,4 +1,6 @@
 // Which calls are refused: the lowest number that applies to a call, or 0.
+#![tactic(auto)]
+
 ghost use Rattle.std.specs.Prelude.{◌≡◌, ℕ, ◌≤◌, false, cond, List, length, ltb};
 ghost use Rattle.rules.specs.Image.{Image, decode, pg};
 ghost use Rattle.rules.specs.Memory.{Memory, both, empty, no_lengths};

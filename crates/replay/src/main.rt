@@ -1,12 +1,14 @@
 // Replays a trace from standard input: a line for each of its lines, then the totals. What is read and printed is the library's; here are the system's calls, a read
 // and a write for each piece.
+#![tactic(auto)]
+
 ghost use Rattle.std.specs.Prelude.{◌≤◌, length};
 ghost use Rattle.replay.specs.Fed.{TakesAll};
 
 use runs::Run;
 
 // A run after a piece, and whether all that it prints was written.
-#[derive(Drop)]
+#[derive(Clone, Copy)]
 struct Written {
     run: Run,
     whole: bool,

@@ -54,11 +54,11 @@ rising b mem (write_cr3 v) = omega arith
 rising b mem (write_mode v) = omega arith
 
 -- one that applies is given, unless a lower one is
-above_member : (n : ℕ) {rs : List Refusal} {r : Refusal} → Above n rs → Memᴰ r rs → n < r.number
+above_member : (n : ℕ) {r : Refusal} {rs : List Refusal} → Above n rs → Memᴰ r rs → n < r.number
 above_member n h (Memᴰ.head e) = rw e h.0
 above_member n h (Memᴰ.tail m) = above_member n h.1 m
 
-pub lowest_least : {rs : List Refusal} {r : Refusal} → Rising rs → Memᴰ r rs → r.applies ≡ true → lowest rs ≤ r.number
+pub lowest_least : {r : Refusal} {rs : List Refusal} → Rising rs → Memᴰ r rs → r.applies ≡ true → lowest rs ≤ r.number
 lowest_least {r} h (Memᴰ.head {x} {xs} e) t = rw (← e, t) (omega arith)
 lowest_least {r} h (Memᴰ.tail {x} {xs} m) t =
     either (λ (n : ℕ). n ≤ r.number) x.applies x.number (lowest xs) (λ e. omega (arith, above_member x.number h.0 m)) (λ e. lowest_least h.1 m t)

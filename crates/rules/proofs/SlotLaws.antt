@@ -61,7 +61,7 @@ missed : (b : Bool) (i : ℕ) (o : Hit) → cond b (hit i) o ≡ miss → (b ≡
 missed true i o h = (cc, cc)
 missed false i o h = (refl, h)
 
-first_miss : (p : ℕ → Bool) {is : List ℕ} {i : ℕ} → Memᴰ i is → first p is ≡ miss → p i ≡ false
+first_miss : (p : ℕ → Bool) {i : ℕ} {is : List ℕ} → Memᴰ i is → first p is ≡ miss → p i ≡ false
 first_miss p (Memᴰ.head {x} {xs} e) h = rw e (missed (p x) x (first p xs) h).0
 first_miss p (Memᴰ.tail {x} {xs} m) h = first_miss p m (missed (p x) x (first p xs) h).1
 

@@ -1,10 +1,12 @@
 // The types that document 01 names, by value, and where guest memory goes on above its hole. What is right is said in specs/; there is no code here.
 
 // The physical address of high's first byte.
+#![tactic(auto)]
+
 pub const HIGH_BASE: usize = 0x1_0000_0000;
 
 // What a walk and the buffer go by: words 0 to 2 of the image, decoded once a call.
-#[derive(Drop)]
+#[derive(Clone, Copy)]
 pub struct Control {
     // The physical width M, 36 to 52.
     pub width: u64,
@@ -18,7 +20,7 @@ pub struct Control {
 
 // What is asked for: a write, a fetch or else a read, by the user or else the supervisor; and whether AC is set, the processor's flag by which a supervisor may
 // read and write user pages though SMAP is on.
-#[derive(Drop)]
+#[derive(Clone, Copy)]
 pub struct Access {
     pub write: bool,
     pub user: bool,
@@ -27,7 +29,7 @@ pub struct Access {
 }
 
 // What a page allows.
-#[derive(Drop)]
+#[derive(Clone, Copy)]
 pub struct Rights {
     pub writable: bool,
     pub user: bool,
@@ -35,7 +37,7 @@ pub struct Rights {
 }
 
 // A page size.
-#[derive(Drop)]
+#[derive(Clone, Copy)]
 pub struct Size {
     // The level at which a walk ends at such a page.
     pub level: u64,
@@ -49,7 +51,7 @@ pub struct Size {
 }
 
 // Why a walk faults.
-#[derive(Drop)]
+#[derive(Clone, Copy)]
 pub enum Cause {
     NotPresent,
     Reserved,
@@ -57,7 +59,7 @@ pub enum Cause {
 }
 
 // What a walk finds for an access, with the number of entries read.
-#[derive(Drop)]
+#[derive(Clone, Copy)]
 pub enum Found {
     Page {
         base: u64,
@@ -75,7 +77,7 @@ pub enum Found {
 }
 
 // What a call answers.
-#[derive(Drop)]
+#[derive(Clone, Copy)]
 pub enum Answer {
     // A physical address, the length of its page (0 with paging off) and the number of entries read.
     Address {

@@ -1,5 +1,7 @@
 // A run over an input that comes in pieces of any size. Of a line that has no end yet so many bytes are kept as show that it is too long to be good, so that an
 // input of any length takes the same memory.
+#![tactic(auto)]
+
 ghost use Rattle.std.specs.Prelude.{◌+◌, ◌≤◌, ◌<◌, ◌≡◌, length};
 ghost use Rattle.rules.specs.Bits.{word_at};
 ghost use Rattle.trace.specs.Totals.{counted};
@@ -16,7 +18,7 @@ pub const ENOUGH: usize = 53;
 pub const MOST: u64 = 0xFFFF_FFFF;
 
 // What a run has come to, beside the bytes that are lent to it: how many bytes of a line are kept, how many lines were, and the totals.
-#[derive(Drop)]
+#[derive(Clone, Copy)]
 pub struct Run {
     pub kept: usize,
     pub lines: u64,
@@ -24,14 +26,14 @@ pub struct Run {
 }
 
 // A run after a line, and the place after what is printed.
-#[derive(Drop)]
+#[derive(Clone, Copy)]
 struct Ended {
     run: Run,
     written: usize,
 }
 
 // A run after a piece: how many of its bytes were taken, and how many printed.
-#[derive(Drop)]
+#[derive(Clone, Copy)]
 pub struct Fed {
     pub run: Run,
     pub taken: usize,

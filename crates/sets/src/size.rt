@@ -4,13 +4,13 @@ ghost use Rattle.rules.specs.Sizes.{Is, small, middle, large, size_at, page_numb
 
 use rules::Size;
 
-#[derive(Drop)]
+#[derive(Clone, Copy)]
 pub struct Page4K;
 
-#[derive(Drop)]
+#[derive(Clone, Copy)]
 pub struct Page2M;
 
-#[derive(Drop)]
+#[derive(Clone, Copy)]
 pub struct Page1G;
 
 impl Page4K {

@@ -1,5 +1,7 @@
 // The types and separators that request W-206 names, by value. What a trace means is said in specs/.
 
+#![tactic(auto)]
+
 pub mod counting; // counting.rt: one answer more in the totals
 
 // What parts a line's fields, and what ends a line.
@@ -8,14 +10,14 @@ pub const TAB: u8 = 9;
 pub const FEED: u8 = 10;
 
 // What a field's bytes are.
-#[derive(Drop)]
+#[derive(Clone, Copy)]
 pub enum Number {
     Of(u64),
     Bad,
 }
 
 // What a line asks for.
-#[derive(Drop)]
+#[derive(Clone, Copy)]
 pub enum Order {
     Start { width: u64 },
     Mode { flags: u64 },
@@ -28,7 +30,7 @@ pub enum Order {
 }
 
 // What is counted over a trace.
-#[derive(Drop)]
+#[derive(Clone, Copy)]
 pub struct Totals {
     // Translations that gave an address.
     pub addresses: u64,

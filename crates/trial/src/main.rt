@@ -1,5 +1,7 @@
 // Runs the trial cases of the paper through the calls, and writes a line for each thing that a case states.
 // Where the paper gives no number of entries read, the rules' number is expected: the levels that the walk reaches.
+#![tactic(auto)]
+
 mod guest; // guest.rt: the trial guest, and the calls on it
 mod report; // report.rt: what a call came to, and the lines that are written
 

@@ -5,7 +5,7 @@ ghost use Rattle.trial.specs.Trial.{Tells, are_alike, tallied};
 use rules::Answer;
 
 // An answer as the paper's record has it, without the page size.
-#[derive(Drop)]
+#[derive(Clone, Copy)]
 pub struct Told {
     // 0 address, 1 fault, 2 refused, 3 done.
     pub kind: u64,
@@ -14,7 +14,7 @@ pub struct Told {
 }
 
 // How many lines have passed, and how many failed.
-#[derive(Drop)]
+#[derive(Clone, Copy)]
 pub struct Tally {
     pub passed: u64,
     pub failed: u64,

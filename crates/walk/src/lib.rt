@@ -1,6 +1,8 @@
 // The walk over the guest's tables, in the rules' two halves. First which page is reached: one step, the same at each level, that calls itself on the next
 // table and only reads. Then whether this access may use it; and where it may and a mark is lacking, the same steps again, adding it.
 // Inside the recursion everything is a number (specs/Packed says what each stands for), since there a struct or an enum would go through memory.
+#![tactic(auto)]
+
 ghost use Rattle.std.specs.Prelude.{◌≡◌, not, ◌+◌, ◌*◌, ◌/◌, ◌%◌, ◌^◌, ◌≤◌, ◌<◌, length};
 ghost use Rattle.rules.specs.Bits.{is_on, part};
 ghost use Rattle.rules.specs.Memory.{both, entry_in, entry_at, Whole};

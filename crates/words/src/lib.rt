@@ -1,4 +1,6 @@
 // Bytes and words of a slice, and bits of a number. In machine code a read is one load, a write one store.
+#![tactic(auto)]
+
 ghost use Rattle.std.specs.Prelude.{◌≡◌, ◌+◌, ◌≤◌, ◌<◌, eqb, length, replicate};
 ghost use Rattle.rules.specs.Bits.{is_on, one as one_of, part as part_of, word_at, word_put};
 ghost use Rattle.rules.specs.Refusals.{all_zero};
