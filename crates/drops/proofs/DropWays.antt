@@ -152,7 +152,7 @@ page_dropped z b b' a page set mask want own whose q h g p s e =
     (is_masked mask want (tag_in b i)) (is_global (tag_in b i) || is_masked own whose (tag_in b i))))
 
 -- ---- drop_held: where no way of the page's set is held there is nothing to drop
-not_held : (b : List ℕ) {is : List ℕ} {i : ℕ} → Memᴰ i is → any_held b is ≡ false → is_held (tag_in b i) ≡ false
+not_held : (b : List ℕ) {i : ℕ} {is : List ℕ} → Memᴰ i is → any_held b is ≡ false → is_held (tag_in b i) ≡ false
 not_held b (Memᴰ.head {x} {xs} e) h = rw e (or_left (is_held (tag_in b x)) (any_held b xs) h)
 not_held b (Memᴰ.tail {x} {xs} m) h = not_held b m (or_right (is_held (tag_in b x)) (any_held b xs) h)
 

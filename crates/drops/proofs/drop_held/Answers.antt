@@ -1,0 +1,6 @@
+-- Where no way is held there is nothing to drop.
+use Rattle.drops.proofs.DropWays.{none_held}
+use Rattle.drops.proofs.drop_held.Goals as goal
+
+pub returns-else-any : goal.returns-else-any
+returns-else-any c = search none_held

@@ -1,0 +1,25 @@
+-- Counted, the bytes are a journal's again; then a way for each place of the fault: a held record, the next one, none.
+use Rattle.journal.proofs.Reporting.{is_held, held_room, place_room, journal_counted, held_counted, came_again, came_new, came_late}
+use borrow.Author.Rules.{rules}
+use Rattle.journal.proofs.take.Goals as goal
+
+pub find-i-requires : goal.find-i-requires
+find-i-requires c = (search rules, (search is_held, search held_room))
+
+pub again-requires : goal.again-requires
+again-requires c = (search journal_counted, search place_room)
+
+pub returns-then-i-held : goal.returns-then-i-held
+returns-then-i-held c = search came_again
+
+pub keep-requires : goal.keep-requires
+keep-requires c = (search journal_counted, (search held_counted, search rules))
+
+pub returns-then-held-lt-RECORDS : goal.returns-then-held-lt-RECORDS
+returns-then-held-lt-RECORDS c = search came_new
+
+pub miss-requires : goal.miss-requires
+miss-requires c = search journal_counted
+
+pub returns : goal.returns
+returns c = search came_late
