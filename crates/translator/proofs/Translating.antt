@@ -1,15 +1,14 @@
 -- The ways through a translation: refused; answered with paging off; and with paging on by a page that is held, or by the walk. Each leaves what the rules' call does.
 use Prim.Native.Nat.{ℕ, zero, suc, ◌≤◌}
 use mathlib.Core.Path.{◌≡◌, refl, ap, sym, ◌∙◌, subst}
-use mathlib.Core.Bool.{Bool, true, false, not}
+use mathlib.Core.Bool.{Bool, true, false}
 use mathlib.Core.List.{List}
 use lib.ListN.{length}
-use borrow.Author.Tests.{not-true, not-false}
 use Rattle.rules.specs.Bits.{AreBytes}
 use Rattle.rules.specs.Image.{decode, pg}
-use Rattle.rules.specs.Memory.{Memory, Whole}
+use Rattle.rules.specs.Memory.{Memory, Whole, no_lengths}
 use Rattle.rules.specs.Buffer.{find}
-use Rattle.rules.specs.Refusals.{translate, refusal}
+use Rattle.rules.specs.Refusals.{translate, is_unfit, refusal}
 use Rattle.rules.specs.Calls.{After, access_of, looked, translated, encoded, accepted}
 use Rattle.rules.specs.declared.Answer.{Answer}
 use Rattle.rules.specs.declared.Answer.TheVariants.{Address, Refused}
@@ -34,6 +33,10 @@ module _ (b : List ℕ) (mem : Memory) (k a ac n : ℕ) (number_is : n ≡ refus
       go zero f s = absurd (s refl)
       go (suc i) f s = record { outcome = sym (call_refused b mem (translate k a ac) i f) }
 
+-- what was asked, of each of the three
+pub asks : (b : List ℕ) (mem : Memory) (u m p : Bool) → u ≡ is_unfit b → m ≡ no_lengths mem → (u ≡ false → p ≡ pg (decode b).flags) → Asked b mem u m p
+asks b mem u m p f g h = record { image = f; memory = g; paging = h }
+
 -- ---- one that is accepted
 pub record Accepts (b : List ℕ) (mem : Memory) (k a ac : ℕ) : Type 0 where
   pub number : refusal b mem (translate k a ac) ≡ 0
@@ -53,11 +56,11 @@ module _ (b : List ℕ) (mem : Memory) (k a ac : ℕ) (x : Accepts b mem k a ac)
   paging : (u m p : Bool) → Asked b mem u m p → p ≡ pg (decode b).flags
   paging u m p asked = asked.paging (asked.image ∙ fit_passes b was.0)
 
-  pub paging_on : (u m p : Bool) → Asked b mem u m p → not p ≡ false → pg (decode b).flags ≡ true
-  paging_on u m p asked e = sym (paging u m p asked) ∙ not-false p e
+  pub paging_on : (u m p : Bool) → Asked b mem u m p → p ≡ true → pg (decode b).flags ≡ true
+  paging_on u m p asked e = sym (paging u m p asked) ∙ e
 
-  pub paging_off : (u m p : Bool) → Asked b mem u m p → not p ≡ true → pg (decode b).flags ≡ false
-  paging_off u m p asked e = sym (paging u m p asked) ∙ not-true p e
+  pub paging_off : (u m p : Bool) → Asked b mem u m p → p ≡ false → pg (decode b).flags ≡ false
+  paging_off u m p asked e = sym (paging u m p asked) ∙ e
 
   pub known : k ≤ 5
   known = was.1

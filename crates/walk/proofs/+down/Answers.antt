@@ -3,10 +3,10 @@ use Rattle.walk.proofs.Steps.{way_end, way_on}
 use Rattle.walk.proofs.+down.Goals as goal
 
 pub returns-then-level-eq1 : goal.returns-then-level-eq1
-returns-then-level-eq1 c = search way_end
+returns-then-level-eq1 t c = search way_end
 
 pub returns-then-t-bars-eq0 : goal.returns-then-t-bars-eq0
-returns-then-t-bars-eq0 c = search way_on
+returns-then-t-bars-eq0 t c = search way_on
 
 pub returns : goal.returns
-returns c = search way_end
+returns t c = search way_end
