@@ -1,6 +1,6 @@
 -- What is printed into lent bytes fits. A number has at most 16 digits and a word at most 7 letters, so a line at most 76 bytes; a byte of the input
 -- ends at most one line, and none is taken where a line might not fit.
-use Rattle.std.proofs.Common.{◌≡◌, ℕ, zero, suc, ◌+◌, ◌-◌, ◌≤◌, eqb, ltb, List, [], ◌∷◌, length, refl, ap, arith, length-append, ltb-false}
+use Rattle.std.proofs.Common.{◌≡◌, ℕ, zero, suc, ◌+◌, ◌-◌, ◌≤◌, eqb, ltb, Bool, true, false, cond, List, [], ◌∷◌, length, refl, ap, arith, length-append, ltb-false}
 use lib.ListN.{length-map}
 use Rattle.rules.specs.Answers.{Words}
 use Rattle.rules.proofs.BoolLaws.{either, or_left}
@@ -8,7 +8,7 @@ use Rattle.trace.specs.Text.{tab, feed}
 use Rattle.trace.specs.Numbers.{digits, trimmed, byte_of, hex_of}
 use Rattle.trace.specs.Does.{line_does}
 use Rattle.trace.specs.Printed.{joined, word_for, printed}
-use Rattle.trace.specs.Pieces.{Run, Step, byte, is_over, room, Taken, is_full, taking}
+use Rattle.trace.specs.Pieces.{Run, Step, byte, is_over, room, Taken, is_full, onward, taking}
 use Rattle.trace.specs.Claims.{Fits}
 use Rattle.trace.proofs.LineLaws.{spread}
 
@@ -61,11 +61,25 @@ byte_low r b =
     Low : Step → Type 0
     Low s = length s.out ≤ room
 
-pub fits : Fits
+-- either nothing, or a step and what is taken after it
+chosen_low : (left : ℕ) (f : Bool) (r : Run) (s : Step) (t : Taken) → (f ≡ false → room ≤ left) → length s.out ≤ room
+    → length t.step.out ≤ left - length s.out
+    → length (cond f (record { step = record { out = []; run = r }; taken = 0 }) (onward s t)).step.out ≤ left
+chosen_low left true r s t e l h = omega arith
+chosen_low left false r s t e l h = let k : room ≤ left = e refl in rw (length-append s.out t.step.out) (omega arith)
+
+fits_more : (left : ℕ) (r : Run) (b : ℕ) (bs : List ℕ) → ((k : ℕ) (q : Run) → length (taking k q bs).step.out ≤ k)
+    → length (taking left r (b ∷ bs)).step.out ≤ left
 unfolding taking
-fits left r [] = omega arith
-fits left r (b ∷ bs) =
-    let l : length (byte r b).out ≤ room = byte_low r b in
-    let ih : length (taking (left - length (byte r b).out) (byte r b).run bs).step.out ≤ left - length (byte r b).out = fits _ (byte r b).run bs in
-    either (λ (t : Taken). length t.step.out ≤ left) (is_full left r) _ _ (λ h. omega arith)
-    (λ h. let e : room ≤ left = ltb-false left room (or_left (ltb left room) (is_over r) h) in rw (length-append (byte r b).out _) (omega arith))
+fits_more left r b bs ih =
+    let s : Step = byte r b in
+    chosen_low left (is_full left r) r s (taking (left - length s.out) s.run bs) (λ h. ltb-false left room (or_left (ltb left room) (is_over r) h))
+    (byte_low r b) (ih (left - length s.out) s.run)
+
+fits_none : (left : ℕ) (r : Run) → length (taking left r []).step.out ≤ left
+unfolding taking
+fits_none left r = omega arith
+
+pub fits : Fits
+fits left r [] = fits_none left r
+fits left r (b ∷ bs) = fits_more left r b bs (λ k q. fits k q bs)

@@ -1,8 +1,9 @@
 // What a call came to, and the lines that are written of it.
-ghost use Rattle.std.specs.Prelude.{◌≡◌, ◌==◌};
+ghost use Rattle.std.specs.Prelude.{◌≡◌, ◌==◌, IfOk};
 ghost use Rattle.trial.specs.Trial.{Tells, are_alike, tallied};
 
 use rules::Answer;
+use std::io;
 
 // An answer as the paper's record has it, without the page size.
 #[derive(Clone, Copy)]
@@ -86,80 +87,82 @@ fn are_alike(a: Told, b: Told) -> bool
     (a.kind == b.kind) & (a.value == b.value) & (a.read == b.read)
 }
 
-fn write(s: &[u8]) {
-    io::write_all(1, s);
+fn write<R: Print>(rt: &R, s: &[u8]) -> io::Result<()> {
+    rt.write_all(s)
 }
 
-fn write_number(x: u64) {
-    write(b"0x");
-    io::print_hex(1, x, 1);
+fn write_number<R: Print>(rt: &R, x: u64) -> io::Result<()> {
+    print!(rt; "0x{x:x}")
 }
 
-fn write_kind(kind: u64) {
+fn write_kind<R: Print>(rt: &R, kind: u64) -> io::Result<()> {
     if kind == 0 {
-        write(b"address ");
-        return;
+        return write(rt, b"address ");
     }
     if kind == 1 {
-        write(b"fault ");
-        return;
+        return write(rt, b"fault ");
     }
-    write(b"refusal ");
+    write(rt, b"refusal ")
 }
 
-fn write_told(o: Told) {
+fn write_told<R: Print>(rt: &R, o: Told) -> io::Result<()> {
     if o.kind == 3 {
-        write(b"done");
-        return;
+        return write(rt, b"done");
     }
-    write_kind(o.kind);
-    write_number(o.value);
+    write_kind(rt, o.kind)?;
+    write_number(rt, o.value)?;
     if o.kind == 2 {
-        return;
+        return Ok(());
     }
-    write(b", ");
-    io::print_decimal(1, o.read);
-    write(b" read");
+    write(rt, b", ")?;
+    print!(rt; "{}", o.read)?;
+    write(rt, b" read")
 }
 
 // The end of a line; the sums cannot wrap before 2^64 lines are written.
-fn judge(t: Tally, good: bool) -> Tally
-    ensures { result ≡ tallied good t }
+fn judge<R: Print>(rt: &R, t: Tally, good: bool) -> io::Result<Tally>
+    ensures { IfOk result (λ n. n ≡ tallied good t) }
 {
     if good {
-        write(b": passed\n");
-        return Tally {
+        write(rt, b": passed\n")?;
+        return Ok(Tally {
             passed: std::num::wrapping_add_u64(t.passed, 1),
             failed: t.failed,
-        };
+        });
     }
-    write(b": failed\n");
-    Tally {
+    write(rt, b": failed\n")?;
+    Ok(Tally {
         passed: t.passed,
         failed: std::num::wrapping_add_u64(t.failed, 1),
-    }
+    })
 }
 
 // A line on what a call came to.
-pub fn call(t: Tally, name: &[u8], expected: Told, came: Told) -> Tally
-    ensures { result ≡ tallied (are_alike expected came) t }
+pub fn call<R: Print>(
+    rt: &R,
+    t: Tally,
+    name: &[u8],
+    expected: Told,
+    came: Told,
+) -> io::Result<Tally>
+    ensures { IfOk result (λ n. n ≡ tallied (are_alike expected came) t) }
 {
-    write(name);
-    write(b": expected ");
-    write_told(expected);
-    write(b"; came ");
-    write_told(came);
-    judge(t, are_alike(expected, came))
+    write(rt, name)?;
+    write(rt, b": expected ")?;
+    write_told(rt, expected)?;
+    write(rt, b"; came ")?;
+    write_told(rt, came)?;
+    judge(rt, t, are_alike(expected, came))
 }
 
 // A line on what a word of the guest's holds.
-pub fn word(t: Tally, name: &[u8], expected: u64, came: u64) -> Tally
-    ensures { result ≡ tallied (expected == came) t }
+pub fn word<R: Print>(rt: &R, t: Tally, name: &[u8], expected: u64, came: u64) -> io::Result<Tally>
+    ensures { IfOk result (λ n. n ≡ tallied (expected == came) t) }
 {
-    write(name);
-    write(b": expected ");
-    write_number(expected);
-    write(b"; came ");
-    write_number(came);
-    judge(t, expected == came)
+    write(rt, name)?;
+    write(rt, b": expected ")?;
+    write_number(rt, expected)?;
+    write(rt, b"; came ")?;
+    write_number(rt, came)?;
+    judge(rt, t, expected == came)
 }

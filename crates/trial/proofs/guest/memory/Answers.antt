@@ -1,0 +1,6 @@
+-- Ten words.
+use Rattle.trial.proofs.Counting.{ten_words}
+use Rattle.trial.proofs.guest.memory.Goals as goal
+
+pub returns : goal.returns
+returns c = search ten_words
