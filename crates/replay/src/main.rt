@@ -6,6 +6,7 @@ ghost use Rattle.std.specs.Prelude.{◌≤◌, length};
 ghost use Rattle.replay.specs.Fed.{TakesAll};
 
 use runs::Run;
+use std::io::Read;
 
 // A run after a piece, and whether all that it prints was written.
 #[derive(Clone, Copy)]
@@ -14,8 +15,24 @@ struct Written {
     whole: bool,
 }
 
+// Whether bytes were written, all of them.
+fn wrote<R: Print>(rt: &R, bytes: &[u8]) -> bool {
+    rt.write_all(bytes).is_ok()
+}
+
+// How many bytes were read; a read that fails ends the input.
+fn read_into<R: Read>(from: &mut R, input: &mut [u8]) -> usize
+    ensures { result ≤ length input.new }
+{
+    match from.read(input) {
+        Ok(n) => n,
+        Err(_) => 0,
+    }
+}
+
 // A piece goes in, and what it prints goes out, in as many writes as the room asks for. No byte of it is left out, unless a write fails.
-fn feed_all(
+fn feed_all<R: Print>(
+    rt: &R,
     run: Run,
     image: &mut [u8],
     mem: &mut [u8],
@@ -32,7 +49,7 @@ fn feed_all(
         let fed = runs::feed(run, image, mem, kept, &piece[at..], out);
         run = fed.run;
         let n = fed.written;
-        if !io::write_all(1, &out[..n]) {
+        if !wrote(rt, &out[..n]) {
             return Written { run, whole: false };
         }
         if fed.taken == 0 {
@@ -44,7 +61,8 @@ fn feed_all(
 }
 
 // The same for the program's own bytes.
-fn feed_piece(
+fn feed_piece<R: Print>(
+    rt: &R,
     run: Run,
     image: &mut [u8; 2048],
     mem: &mut [u8; 65536],
@@ -54,31 +72,46 @@ fn feed_piece(
 ) -> Written
     ensures { TakesAll run result image.old image.new mem.old mem.new kept.old kept.new piece.now }
 {
-    feed_all(run, image, mem, kept, piece, out)
+    feed_all(rt, run, image, mem, kept, piece, out)
 }
 
 // The last line, if it lacks its end, and the totals.
-fn finish(run: Run, image: &mut [u8; 2048], mem: &mut [u8; 65536], kept: &mut [u8; 53]) {
+fn finish<R: Print>(
+    rt: &R,
+    run: Run,
+    image: &mut [u8; 2048],
+    mem: &mut [u8; 65536],
+    kept: &mut [u8; 53],
+) {
     let mut out = [0u8; 160];
     let n = runs::finish(run, image, mem, kept, &mut out);
-    io::write_all(1, &out[..n]);
+    wrote(rt, &out[..n]);
 }
 
-fn main() {
+fn main(rt: HostRuntime) {
     let mut image = [0u8; 2048];
     let mut mem = [0u8; 65536];
     let mut kept = [0u8; 53];
-    let mut out = io::large_buffer();
-    let mut input = io::large_buffer();
+    let mut out = [0u8; 65536];
+    let mut input = [0u8; 65536];
+    let mut from = rt.reader();
     let mut run = runs::begin();
     // Nothing says that the input ends: a count that falls lets the program do so.
     let mut pieces: u64 = 0xFFFF_FFFF_FFFF_FFFF;
     while 0 < pieces {
-        let n = io::count(libc::read(0, &mut input), &input);
+        let n = read_into(&mut from, &mut input);
         if n == 0 {
             break;
         }
-        let written = feed_piece(run, &mut image, &mut mem, &mut kept, &input[..n], &mut out);
+        let written = feed_piece(
+            &rt,
+            run,
+            &mut image,
+            &mut mem,
+            &mut kept,
+            &input[..n],
+            &mut out,
+        );
         // An output that lacks its last line is seen not to be whole.
         if !written.whole {
             return;
@@ -89,5 +122,5 @@ fn main() {
         }
         pieces -= 1;
     }
-    finish(run, &mut image, &mut mem, &mut kept);
+    finish(&rt, run, &mut image, &mut mem, &mut kept);
 }
