@@ -12,7 +12,7 @@ pub drop_page-requires-2 : goal.drop_page-requires-2
 drop_page-requires-2 c = (search image_dropped, (search (is_4k, is_2m, is_1g), search rules))
 
 pub drop_page-requires-3 : goal.drop_page-requires-3
-drop_page-requires-3 c = 
+drop_page-requires-3 c =
     let two = c.before in
     let one = two.before in (
       image_twice _ _ _ _ _ one.requires.0 one.drop_page.ensures two.drop_page-2.ensures,

@@ -15,7 +15,7 @@ pub drop_held-requires : goal.drop_held-requires
 drop_held-requires c = (search image_dropped, (search rules, (search (is_4k, is_2m, is_1g), search rules)))
 
 pub any_in-any-requires-2 : goal.any_in-any-requires-2
-any_in-any-requires-2 c = 
+any_in-any-requires-2 c =
     let two = c.before in
     let one = two.before in (
       (image_twice _ _ _ _ _ one.requires.0 one.drop_match.ensures two.drop_held.ensures).size,
@@ -23,7 +23,7 @@ any_in-any-requires-2 c =
     )
 
 pub drop_held-requires-2 : goal.drop_held-requires-2
-drop_held-requires-2 c = 
+drop_held-requires-2 c =
     let two = c.before in
     let one = two.before in (
       image_twice _ _ _ _ _ one.requires.0 one.drop_match.ensures two.drop_held.ensures,
@@ -31,7 +31,7 @@ drop_held-requires-2 c =
     )
 
 pub returns : goal.returns
-returns c = 
+returns c =
     let three = c.before in
     let two = three.before in
     let one = two.before in

@@ -7,7 +7,7 @@ pub returns-then-is_unfit : goal.returns-then-is_unfit
 returns-then-is_unfit c = search report_refused
 
 pub take-requires : goal.take-requires
-take-requires c = 
+take-requires c =
     report_fit c.args.journal.now c.is_unfit.result c.is_unfit.ensures c.if-is_unfit.false (λ j. omega (arith, c.slice_known-1.given j))
 
 pub returns : goal.returns

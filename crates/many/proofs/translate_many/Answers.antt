@@ -8,7 +8,7 @@ pub returns-then-no_pairs : goal.returns-then-no_pairs
 returns-then-no_pairs c = search none_taken
 
 pub loop-i-init : goal.loop-i-init
-loop-i-init c = 
+loop-i-init c =
     done_none _ _ _ _ _ _ _ _ _ c.no_pairs.ensures c.if-no_pairs.false refl
     (record { image = c.is_unfit-unfit.ensures; memory = c.no_lengths-misfit.ensures; paging = c.is_paged-paged.ensures })
     (λ j. omega (arith, c.slice_known-1.given j))
@@ -17,11 +17,11 @@ pub pair-requires : goal.pair-requires
 pair-requires c = (search rules, c.loop-i.invariant.asked)
 
 pub overflow_add-i : goal.overflow_add-i
-overflow_add-i c = 
+overflow_add-i c =
     omega (arith, c.loop-i-test.true, c.loop-i.invariant.few)
 
 pub loop-i-preserved : goal.loop-i-preserved
-loop-i-preserved c = 
+loop-i-preserved c =
     done_more _ _ _ _ _ _ _ _ _ _ _ _ c.loop-i.invariant _ _ _ _ _ _ c.loop-i-test.true c.read_word-kind.ensures c.read_word-a.ensures
     c.pair.ensures (search rules) (λ j. omega (arith, c.slice_known-in-loop-i-1.given j))
 

@@ -13,7 +13,7 @@ pub pcid_of-pcid-requires : goal.pcid_of-pcid-requires
 pcid_of-pcid-requires c = search call_long
 
 pub drop_matches-requires : goal.drop_matches-requires
-drop_matches-requires c = 
+drop_matches-requires c =
     let i = call_image (invlpg c.args.a) c.args.image.now empty c.invlpg_refusal-number.result tt (λ j. omega (arith, c.slice_known-1.given j)) c.invlpg_refusal-number.ensures c.if-number-ne0.false in
     (i, search rules)
 
@@ -21,6 +21,6 @@ pub returns-then-is_canonical : goal.returns-then-is_canonical
 returns-then-is_canonical c = search invlpg_drops
 
 pub returns : goal.returns
-returns c = 
+returns c =
     let i = call_image (invlpg c.args.a) c.args.image.now empty c.invlpg_refusal-number.result tt (λ j. omega (arith, c.slice_known-1.given j)) c.invlpg_refusal-number.ensures c.if-number-ne0.false in
     search (invlpg_nothing, i)

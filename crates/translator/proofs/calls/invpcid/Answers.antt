@@ -9,7 +9,7 @@ pub returns-then-number-ne0 : goal.returns-then-number-ne0
 returns-then-number-ne0 c = search refuses
 
 pub drop_address-requires : goal.drop_address-requires
-drop_address-requires c = 
+drop_address-requires c =
     let i = call_image (invpcid c.args.kind c.args.pcid c.args.a) c.args.image.now empty c.invpcid_refusal-number.result tt (λ j. omega (arith, c.slice_known-1.given j)) c.invpcid_refusal-number.ensures c.if-number-ne0.false in
     (i, search asked_pcid_lt)
 
@@ -17,7 +17,7 @@ pub returns-then-kind-eq0 : goal.returns-then-kind-eq0
 returns-then-kind-eq0 c = search invpcid_0
 
 pub drop_pcid-requires : goal.drop_pcid-requires
-drop_pcid-requires c = 
+drop_pcid-requires c =
     let i = call_image (invpcid c.args.kind c.args.pcid c.args.a) c.args.image.now empty c.invpcid_refusal-number.result tt (λ j. omega (arith, c.slice_known-1.given j)) c.invpcid_refusal-number.ensures c.if-number-ne0.false in
     (i, search asked_pcid_lt)
 
@@ -25,7 +25,7 @@ pub returns-then-kind-eq1 : goal.returns-then-kind-eq1
 returns-then-kind-eq1 c = search invpcid_1
 
 pub drop_everything-requires : goal.drop_everything-requires
-drop_everything-requires c = 
+drop_everything-requires c =
     let i = call_image (invpcid c.args.kind c.args.pcid c.args.a) c.args.image.now empty c.invpcid_refusal-number.result tt (λ j. omega (arith, c.slice_known-1.given j)) c.invpcid_refusal-number.ensures c.if-number-ne0.false in
     i
 
@@ -33,7 +33,7 @@ pub returns-then-kind-eq2 : goal.returns-then-kind-eq2
 returns-then-kind-eq2 c = search invpcid_2
 
 pub drop_not_global-requires : goal.drop_not_global-requires
-drop_not_global-requires c = 
+drop_not_global-requires c =
     let i = call_image (invpcid c.args.kind c.args.pcid c.args.a) c.args.image.now empty c.invpcid_refusal-number.result tt (λ j. omega (arith, c.slice_known-1.given j)) c.invpcid_refusal-number.ensures c.if-number-ne0.false in
     i
 

@@ -13,21 +13,21 @@ pub write_word-requires : goal.write_word-requires
 write_word-requires c = search (call_room, rules)
 
 pub returns-then-is_on : goal.returns-then-is_on
-returns-then-is_on c = 
+returns-then-is_on c =
     let i = call_image (write_cr3 c.args.value) c.args.image.now empty c.cr3_refusal-number.result tt (λ j. omega (arith, c.slice_known-1.given j)) c.cr3_refusal-number.ensures c.if-number-ne0.false in
     search (cr3_keeps, i)
 
 pub pcid_of-pcid-requires : goal.pcid_of-pcid-requires
-pcid_of-pcid-requires c = 
+pcid_of-pcid-requires c =
     let i = call_image (write_cr3 c.args.value) c.args.image.now empty c.cr3_refusal-number.result tt (λ j. omega (arith, c.slice_known-1.given j)) c.cr3_refusal-number.ensures c.if-number-ne0.false in
     search (cr3_long, i)
 
 pub drop_pcid-requires : goal.drop_pcid-requires
-drop_pcid-requires c = 
+drop_pcid-requires c =
     let i = call_image (write_cr3 c.args.value) c.args.image.now empty c.cr3_refusal-number.result tt (λ j. omega (arith, c.slice_known-1.given j)) c.cr3_refusal-number.ensures c.if-number-ne0.false in
     (search (cr3_image, i), search rules)
 
 pub returns : goal.returns
-returns c = 
+returns c =
     let i = call_image (write_cr3 c.args.value) c.args.image.now empty c.cr3_refusal-number.result tt (λ j. omega (arith, c.slice_known-1.given j)) c.cr3_refusal-number.ensures c.if-number-ne0.false in
     search (cr3_drops, i)

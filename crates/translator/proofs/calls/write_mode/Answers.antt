@@ -16,16 +16,16 @@ pub write_word-requires : goal.write_word-requires
 write_word-requires c = search (call_room, rules)
 
 pub returns-then-same_mode : goal.returns-then-same_mode
-returns-then-same_mode c = 
+returns-then-same_mode c =
     let i = call_image (write_mode c.args.value) c.args.image.now empty c.mode_refusal-number.result tt (λ j. omega (arith, c.slice_known-1.given j)) c.mode_refusal-number.ensures c.if-number-ne0.false in
     search (mode_keeps, i)
 
 pub drop_everything-requires : goal.drop_everything-requires
-drop_everything-requires c = 
+drop_everything-requires c =
     let i = call_image (write_mode c.args.value) c.args.image.now empty c.mode_refusal-number.result tt (λ j. omega (arith, c.slice_known-1.given j)) c.mode_refusal-number.ensures c.if-number-ne0.false in
     search (mode_image, i)
 
 pub returns : goal.returns
-returns c = 
+returns c =
     let i = call_image (write_mode c.args.value) c.args.image.now empty c.mode_refusal-number.result tt (λ j. omega (arith, c.slice_known-1.given j)) c.mode_refusal-number.ensures c.if-number-ne0.false in
     search (mode_drops, i)
