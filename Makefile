@@ -3,7 +3,7 @@
 .NOTPARALLEL:
 .DELETE_ON_ERROR:
 
-# What the C side builds stands under target/, which `rt ci` removes.
+# What the C side builds stands under target/.
 HOST := target/host
 ARCHIVE := target/staticlib/libpastrulow.a
 PAGE_ARCHIVE := target/staticlib/libpage_test.a
@@ -32,9 +32,9 @@ libdir := $(PREFIX)/lib
 includedir := $(PREFIX)/include
 VERSION := $(shell sed -n 's/^.define PASTRULOW_VERSION UINT64_C(\([0-9]*\))$$/\1/p' include/pastrulow.h)
 
-# rt ci comes last: the gate reads its last line.
+# The gate comes last: its last line is read.
 test: c-tests
-	@rt ci
+	@sh host/gate.sh
 
 c-tests: tools $(addprefix $(HOST)/,demo demo-c++ demo-installed demo-later header header-bytes trial start lengths slices \
     page differential journal vectors_bochs bochs.txt vectors_sequences sequences.txt vectors_linux linux-guest.bin \
@@ -62,12 +62,11 @@ c-tests: tools $(addprefix $(HOST)/,demo demo-c++ demo-installed demo-later head
 	sh host/replay.sh $(HOST) "$(RUN) $(REPLAY)" "$(RUN) $(HOST)/twin" $(TRACES)
 	awk -f $(TEST)/sequences.awk $(HOST)/sequences.txt $(HOST)/sequences.printed
 
-# The example host; then the trial program, which rt proves and runs unless nothing has changed since: the log has what
-# it wrote.
+# The example host; then the trial program, which rt proves first.
 demo: tools $(HOST)/demo
 	@$(RUN) $(HOST)/demo
-	@sh host/prove.sh check trial
-	@cat target/log/trial.stdout
+	@sh host/prove.sh run trial trial target/bin/trial
+	@$(RUN) target/bin/trial
 
 # The program that replays a trace from its standard input, and the words that run it here.
 replay: tools $(REPLAY)
@@ -92,17 +91,17 @@ tools:
 bench-tools:
 	@sh host/tools.sh bench
 
-CRATES := crates.txt $(shell find crates -name '*.rt' -o -name '*.antt')
+CRATES := crates.txt $(shell find crates -name out -prune -o \( -name '*.rt' -o -name '*.antt' \) -print)
 
 $(ARCHIVE): $(CRATES)
-	@sh host/prove.sh staticlib pastrulow
+	@sh host/prove.sh lib pastrulow libpastrulow.a $@
 
 # What page.c holds the header's function to, as an archive of its own: the library has it for callers in Rattle alone.
 $(PAGE_ARCHIVE): $(CRATES)
-	@sh host/prove.sh staticlib page_test
+	@sh host/prove.sh lib page_test libpage_test.a $@
 
 $(REPLAY): $(CRATES)
-	@sh host/prove.sh check replay
+	@sh host/prove.sh run replay replay $@
 
 $(HOST):
 	@mkdir -p $(HOST)

@@ -1,23 +1,14 @@
 #!/bin/sh
-# Runs rt and shows one line for each crate that it proves, as it comes. If rt fails, everything that it has written is shown.
-# Usage: prove.sh WORDS-FOR-RT
+# Has rt prove a crate and the crates below it, and build it: a static library, or a program, which is run on no input. Its proof is said in one line; if rt fails,
+# everything that it has written is shown.
+# Usage: prove.sh lib|run CRATE WHAT-IT-BUILDS WHERE-TO
 set -u
 
-# Both are open before rt starts, which may remove target/.
-mkdir -p target
-exec 3>target/rt.log
-exec 4<target/rt.log
-
-{ rt "$@" 2>&1; echo "rt ended: $?"; } | {
-    status=1
-    while IFS= read -r line; do
-        printf '%s\n' "$line" >&3
-        case $line in
-        "rt: "*" proved (unchanged "*) ;;
-        "rt: "*" proved ("* | "rt: target/staticlib/"*) printf '%s\n' "$line" ;; # rt staticlib ends with its own line
-        "rt ended: "*) status=${line#rt ended: } ;;
-        esac
-    done
-    [ "$status" -eq 0 ] || cat <&4 >&2
-    exit "$status"
-}
+mkdir -p target "$(dirname "$4")"
+log=target/rt-$2.log
+if (cd "crates/$2" && rt "$1" </dev/null 2>&1) >"$log" && cp "crates/$2/out/$3" "$4"; then
+    echo "$2: $(grep '^logic=proved ' "$log" | tail -n 1)"
+else
+    cat "$log" >&2
+    exit 1
+fi

@@ -5,3 +5,4 @@ pub mod Whole
 pub mod Taking
 pub mod Room
 pub mod Cases
+pub mod Machine
