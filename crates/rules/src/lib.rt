@@ -1,8 +1,7 @@
 // The types that document 01 names, by value, and where guest memory goes on above its hole. What is right is said in specs/; there is no code here.
-
-// The physical address of high's first byte.
 #![tactic(auto)]
 
+// The physical address of high's first byte.
 pub const HIGH_BASE: usize = 0x1_0000_0000;
 
 // What a walk and the buffer go by: words 0 to 2 of the image, decoded once a call.

@@ -185,7 +185,7 @@ fn bounded(run: Run) -> Run
 }
 
 // Whether another turn can be made: there are bytes to take, room for a line, and lines to read.
-fn goes_on_lem(fed: Fed, piece: &[u8], out: &[u8]) -> bool
+fn goes_on(fed: Fed, piece: &[u8], out: &[u8]) -> bool
     requires { fed.written ≤ length out.now }
     ensures { result ≡ goes_on fed piece.now out.now }
 {
@@ -210,7 +210,7 @@ fn turns(
         taken: 0,
         written: 0,
     };
-    while goes_on_lem(fed, piece, out) {
+    while goes_on(fed, piece, out) {
         fed = turn(fed, image, mem, kept, piece, out);
     }
     fed

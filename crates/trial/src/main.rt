@@ -6,17 +6,9 @@ mod guest; // guest.rt: the trial guest, and the calls on it
 mod report; // report.rt: what a call came to, and the lines that are written
 
 use crate::report::{Tally, Told};
-use std::io;
 
 // One translation, afresh.
-fn afresh<R: Print>(
-    rt: &R,
-    t: Tally,
-    name: &[u8],
-    kind: u64,
-    a: u64,
-    expected: Told,
-) -> io::Result<Tally> {
+fn afresh<R: Print>(rt: &R, t: Tally, name: &[u8], kind: u64, a: u64, expected: Told) -> Tally {
     let mut image = guest::image();
     let mut mem = guest::memory();
     report::call(
@@ -29,15 +21,15 @@ fn afresh<R: Print>(
 }
 
 // A read and two writes of one page: the first write walks, to set the dirty bit.
-fn read_and_writes<R: Print>(rt: &R, t: Tally) -> io::Result<Tally> {
+fn read_and_writes<R: Print>(rt: &R, t: Tally) -> Tally {
     let mut image = guest::image();
     let mut mem = guest::memory();
     let read = guest::translate(&mut image, &mut mem, 0, 0x123);
-    let t = report::call(rt, t, b"kind 0 at 0x123", report::address(0x5123, 4), read)?;
+    let t = report::call(rt, t, b"kind 0 at 0x123", report::address(0x5123, 4), read);
     let page = guest::word(&mem, 0x4000);
-    let t = report::word(rt, t, b"kind 0 at 0x123, word at 0x4000", 0x5023, page)?;
+    let t = report::word(rt, t, b"kind 0 at 0x123, word at 0x4000", 0x5023, page);
     let top = guest::word(&mem, 0x1000);
-    let t = report::word(rt, t, b"kind 0 at 0x123, word at 0x1000", 0x2027, top)?;
+    let t = report::word(rt, t, b"kind 0 at 0x123, word at 0x1000", 0x2027, top);
     let write = guest::translate(&mut image, &mut mem, 1, 0x123);
     let t = report::call(
         rt,
@@ -45,14 +37,14 @@ fn read_and_writes<R: Print>(rt: &R, t: Tally) -> io::Result<Tally> {
         b"kind 0 at 0x123, then kind 1",
         report::address(0x5123, 4),
         write,
-    )?;
+    );
     let t = report::word(
         rt,
         t,
         b"kind 0 at 0x123, then kind 1, word at 0x4000",
         0x5063,
         guest::word(&mem, 0x4000),
-    )?;
+    );
     let again = guest::translate(&mut image, &mut mem, 1, 0x123);
     report::call(
         rt,
@@ -64,11 +56,11 @@ fn read_and_writes<R: Print>(rt: &R, t: Tally) -> io::Result<Tally> {
 }
 
 // A supervisor's write to a page that is not writable.
-fn write_unprotected<R: Print>(rt: &R, t: Tally) -> io::Result<Tally> {
+fn write_unprotected<R: Print>(rt: &R, t: Tally) -> Tally {
     let mut image = guest::image();
     let mut mem = guest::memory();
     let mode = guest::write_mode(&mut image, guest::FLAGS_WITHOUT_WP);
-    let t = report::call(rt, t, b"WP off", report::done(), mode)?;
+    let t = report::call(rt, t, b"WP off", report::done(), mode);
     let write = guest::translate(&mut image, &mut mem, 1, 0x1000);
     let t = report::call(
         rt,
@@ -76,7 +68,7 @@ fn write_unprotected<R: Print>(rt: &R, t: Tally) -> io::Result<Tally> {
         b"WP off, kind 1 at 0x1000",
         report::address(0x5000, 4),
         write,
-    )?;
+    );
     report::word(
         rt,
         t,
@@ -87,11 +79,11 @@ fn write_unprotected<R: Print>(rt: &R, t: Tally) -> io::Result<Tally> {
 }
 
 // With NXE off a fault's code does not tell a fetch.
-fn fetch_without_xd<R: Print>(rt: &R, t: Tally) -> io::Result<Tally> {
+fn fetch_without_xd<R: Print>(rt: &R, t: Tally) -> Tally {
     let mut image = guest::image();
     let mut mem = guest::memory();
     let mode = guest::write_mode(&mut image, guest::FLAGS_WITHOUT_NXE);
-    let t = report::call(rt, t, b"NXE off", report::done(), mode)?;
+    let t = report::call(rt, t, b"NXE off", report::done(), mode);
     let fetch = guest::translate(&mut image, &mut mem, 5, 0x3000);
     report::call(
         rt,
@@ -103,11 +95,11 @@ fn fetch_without_xd<R: Print>(rt: &R, t: Tally) -> io::Result<Tally> {
 }
 
 // The rights of pages, and entries that are not there or have a reserved bit.
-fn faults<R: Print>(rt: &R, t: Tally) -> io::Result<Tally> {
-    let t = afresh(rt, t, b"kind 3 at 0x123", 3, 0x123, report::fault(5, 4))?;
-    let t = afresh(rt, t, b"kind 4 at 0x1000", 4, 0x1000, report::fault(7, 4))?;
-    let t = afresh(rt, t, b"kind 1 at 0x1000", 1, 0x1000, report::fault(3, 4))?;
-    let t = write_unprotected(rt, t)?;
+fn faults<R: Print>(rt: &R, t: Tally) -> Tally {
+    let t = afresh(rt, t, b"kind 3 at 0x123", 3, 0x123, report::fault(5, 4));
+    let t = afresh(rt, t, b"kind 4 at 0x1000", 4, 0x1000, report::fault(7, 4));
+    let t = afresh(rt, t, b"kind 1 at 0x1000", 1, 0x1000, report::fault(3, 4));
+    let t = write_unprotected(rt, t);
     let t = afresh(
         rt,
         t,
@@ -115,8 +107,8 @@ fn faults<R: Print>(rt: &R, t: Tally) -> io::Result<Tally> {
         5,
         0x2000,
         report::fault(0x15, 4),
-    )?;
-    let t = afresh(rt, t, b"kind 3 at 0x3000", 3, 0x3000, report::fault(4, 4))?;
+    );
+    let t = afresh(rt, t, b"kind 3 at 0x3000", 3, 0x3000, report::fault(4, 4));
     let t = afresh(
         rt,
         t,
@@ -124,13 +116,13 @@ fn faults<R: Print>(rt: &R, t: Tally) -> io::Result<Tally> {
         5,
         0x3000,
         report::fault(0x14, 4),
-    )?;
-    let t = fetch_without_xd(rt, t)?;
+    );
+    let t = fetch_without_xd(rt, t);
     afresh(rt, t, b"kind 0 at 0x4000", 0, 0x4000, report::fault(9, 4))
 }
 
 // A page of 2 MiB and one of 1 GiB.
-fn large_pages<R: Print>(rt: &R, t: Tally) -> io::Result<Tally> {
+fn large_pages<R: Print>(rt: &R, t: Tally) -> Tally {
     let t = afresh(
         rt,
         t,
@@ -138,7 +130,7 @@ fn large_pages<R: Print>(rt: &R, t: Tally) -> io::Result<Tally> {
         0,
         0x21_2345,
         report::address(0x61_2345, 3),
-    )?;
+    );
     let mut image = guest::image();
     let mut mem = guest::memory();
     let write = guest::translate(&mut image, &mut mem, 1, 0x4000_0010);
@@ -148,7 +140,7 @@ fn large_pages<R: Print>(rt: &R, t: Tally) -> io::Result<Tally> {
         b"kind 1 at 0x40000010",
         report::address(0x4000_0010, 2),
         write,
-    )?;
+    );
     report::word(
         rt,
         t,
@@ -159,7 +151,7 @@ fn large_pages<R: Print>(rt: &R, t: Tally) -> io::Result<Tally> {
 }
 
 // The last address of the lower half, and the one after it.
-fn ends<R: Print>(rt: &R, t: Tally) -> io::Result<Tally> {
+fn ends<R: Print>(rt: &R, t: Tally) -> Tally {
     let t = afresh(
         rt,
         t,
@@ -167,7 +159,7 @@ fn ends<R: Print>(rt: &R, t: Tally) -> io::Result<Tally> {
         0,
         0x8000_0000_0000,
         report::refused(5),
-    )?;
+    );
     afresh(
         rt,
         t,
@@ -179,7 +171,7 @@ fn ends<R: Print>(rt: &R, t: Tally) -> io::Result<Tally> {
 }
 
 // A root outside guest memory, whose entries read as all ones.
-fn root_outside<R: Print>(rt: &R, t: Tally) -> io::Result<Tally> {
+fn root_outside<R: Print>(rt: &R, t: Tally) -> Tally {
     let mut image = guest::image();
     let mut mem = guest::memory();
     let t = report::call(
@@ -188,7 +180,7 @@ fn root_outside<R: Print>(rt: &R, t: Tally) -> io::Result<Tally> {
         b"CR3 0x7000",
         report::done(),
         guest::write_cr3(&mut image, 0x7000),
-    )?;
+    );
     let read = guest::translate(&mut image, &mut mem, 0, 0);
     report::call(
         rt,
@@ -200,28 +192,28 @@ fn root_outside<R: Print>(rt: &R, t: Tally) -> io::Result<Tally> {
 }
 
 // A root that is as wide as the processor, and one that is wider.
-fn wide_roots<R: Print>(rt: &R, t: Tally) -> io::Result<Tally> {
+fn wide_roots<R: Print>(rt: &R, t: Tally) -> Tally {
     let mut image = guest::image();
     let wider = guest::write_cr3(&mut image, 0x100_0000_0000);
-    let t = report::call(rt, t, b"CR3 with bit 40", report::refused(6), wider)?;
+    let t = report::call(rt, t, b"CR3 with bit 40", report::refused(6), wider);
     let mut image = guest::image();
     let as_wide = guest::write_cr3(&mut image, 0x80_0000_0000);
     report::call(rt, t, b"CR3 with bit 39", report::done(), as_wide)
 }
 
 // A global page outlives a write of CR3.
-fn global_page<R: Print>(rt: &R, t: Tally) -> io::Result<Tally> {
+fn global_page<R: Print>(rt: &R, t: Tally) -> Tally {
     let mut image = guest::image();
     let mut mem = guest::memory();
     let read = guest::translate(&mut image, &mut mem, 0, 0x5000);
-    let t = report::call(rt, t, b"kind 0 at 0x5000", report::address(0x5000, 4), read)?;
+    let t = report::call(rt, t, b"kind 0 at 0x5000", report::address(0x5000, 4), read);
     let t = report::call(
         rt,
         t,
         b"kind 0 at 0x5000, then CR3 0x1000",
         report::done(),
         guest::write_cr3(&mut image, 0x1000),
-    )?;
+    );
     let again = guest::translate(&mut image, &mut mem, 0, 0x5000);
     report::call(
         rt,
@@ -233,21 +225,23 @@ fn global_page<R: Print>(rt: &R, t: Tally) -> io::Result<Tally> {
 }
 
 // The last line.
-fn total<R: Print>(rt: &R, t: Tally) -> io::Result<()> {
-    println!(rt; "{} passed, {} failed", t.passed, t.failed)
+fn total<R: Print>(rt: &R, t: Tally) {
+    report::write_decimal(rt, t.passed);
+    report::write(rt, b" passed, ");
+    report::write_decimal(rt, t.failed);
+    report::write(rt, b" failed\n");
 }
 
-fn main(rt: HostRuntime) -> io::Result<()> {
+fn main(rt: HostRuntime) {
     let t = Tally {
         passed: 0,
         failed: 0,
     };
-    let t = read_and_writes(&rt, t)?;
-    let t = faults(&rt, t)?;
-    let t = large_pages(&rt, t)?;
-    let t = ends(&rt, t)?;
-    let t = root_outside(&rt, t)?;
-    let t = wide_roots(&rt, t)?;
-    let t = global_page(&rt, t)?;
-    total(&rt, t)
+    let t = read_and_writes(&rt, t);
+    let t = faults(&rt, t);
+    let t = large_pages(&rt, t);
+    let t = ends(&rt, t);
+    let t = root_outside(&rt, t);
+    let t = wide_roots(&rt, t);
+    total(&rt, global_page(&rt, t));
 }
