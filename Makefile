@@ -91,7 +91,7 @@ tools:
 bench-tools:
 	@sh host/tools.sh bench
 
-CRATES := crates.txt $(shell find crates -name out -prune -o \( -name '*.rt' -o -name '*.antt' \) -print)
+CRATES := crates.txt host/prove.sh $(shell find crates -name out -prune -o \( -name '*.rt' -o -name '*.antt' \) -print)
 
 $(ARCHIVE): $(CRATES)
 	@sh host/prove.sh lib pastrulow libpastrulow.a $@
