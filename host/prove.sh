@@ -1,6 +1,7 @@
 #!/bin/sh
 # Has rt prove a crate and the crates below it, and build it: a static library, or a program, which is run on no input. Its proof is said in one line; if rt fails,
-# everything that it has written is shown. What is built runs on every x86-64 processor, where rt left to itself asks for one of 2009 or later.
+# everything that it has written is shown. What is built runs on every x86-64 processor; rt left to itself would build for x86-64-v2,
+# which a static library doesn't check as it runs.
 # Usage: prove.sh lib|run CRATE WHAT-IT-BUILDS WHERE-TO
 set -u
 

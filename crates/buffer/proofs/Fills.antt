@@ -16,7 +16,7 @@ use Rattle.rules.specs.Image.{Image, victim, moved_on, encode, decode, Sound, Is
 use Rattle.rules.specs.Buffer.{hit, miss, first, stored, with_victims}
 use Rattle.rules.proofs.WordLaws.{bytes_length}
 use Rattle.rules.proofs.ImageLaws.{victims_bytes, store_bytes, decode_encode}
-use Rattle.rules.proofs.PlaceLaws.{tag_at, victims_at, is_encoded, sound_victims}
+use Rattle.rules.proofs.PlaceLaws.{tag_at_lem, victims_at, is_encoded, sound_victims}
 use Rattle.rules.proofs.SoundLaws.{victim_parts, moved_lt}
 use Rattle.buffer.specs.Fill.{is_free, IsLowest, slot_put, filled_at}
 
@@ -42,7 +42,7 @@ none_passed s set = record { low = omega arith; same = refl }
 module _ (b : List ℕ) (set way tag : ℕ) (on : Bool) (h : set < 25) (g : way < 4) (p : Passed (decode b) set way)
     (t : tag ≡ word_at b (32 + (4 * set + way) * 16)) (o : on ≡ is_on 0 tag) where
   free_is : is_free (decode b) (4 * set + way) ≡ not on
-  free_is = rw (tag_at b (4 * set + way) (omega arith), ← t, ← o)
+  free_is = rw (tag_at_lem b (4 * set + way) (omega arith), ← t, ← o)
 
   here : first (is_free (decode b)) (slots_of set)
       ≡ cond (not on) (hit (4 * set + way)) (first (is_free (decode b)) (drop (way + 1) (slots_of set)))

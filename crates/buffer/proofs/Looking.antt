@@ -18,7 +18,7 @@ use Rattle.rules.specs.Sizes.{small, middle, large, Is, is_small, size_at, page_
 use Rattle.rules.specs.Image.{decode, pcid, is_held}
 use Rattle.rules.specs.Buffer.{contains, matches, Hit, hit, miss, first, all_ways, find}
 use Rattle.rules.specs.declared.Size.{Size}
-use Rattle.rules.proofs.PlaceLaws.{tag_at}
+use Rattle.rules.proofs.PlaceLaws.{tag_at_lem}
 use Rattle.rules.proofs.SizeLaws.{size_at_lem, set_lt, slot_size}
 use Rattle.rules.proofs.SlotLaws.{Hits, first_all}
 use Rattle.buffer.specs.declared.look.Place.{Place}
@@ -37,7 +37,7 @@ pub own_test : (b : List ℕ) (at p t : ℕ) → at % 16 ≡ 0 → at / 16 < 100
     → (eqb (t / 2 % 2) 1 || eqb (t / 4 % 4096) p) ≡ is_of p (tag_in b (at / 16))
 own_test b at p t g h e =
     let k : 32 + at / 16 * 16 ≡ 32 + at = omega arith in
-    rw (tag_at b (at / 16) h, k, ← e)
+    rw (tag_at_lem b (at / 16) h, k, ← e)
 
 -- ---- a size's slots
 module _ (b : List ℕ) (a : ℕ) (z : Size) (n s : ℕ) (is : Is z) (en : n ≡ page_number z a) (es : s ≡ z.first + n % z.sets) where
@@ -48,7 +48,7 @@ module _ (b : List ℕ) (a : ℕ) (z : Size) (n s : ℕ) (is : Is z) (en : n ≡
   slot_holds : (i at : ℕ) (x y : Bool) → i / 4 ≡ s → at ≡ 32 + i * 16 → x ≡ holds_page n (word_at b at) → x ≡ y → holds b a i ≡ y
   slot_holds i at x y h k e t =
       let g : i / 4 ≡ set_of z a = h ∙ own_set in
-      rw (slot_size z a i is g, eq-eqb (i / 4) (set_of z a) g, ← en, tag_at b i (omega (arith, set_lt z a is)), ← k) (sym e ∙ t)
+      rw (slot_size z a i is g, eq-eqb (i / 4) (set_of z a) g, ← en, tag_at_lem b i (omega (arith, set_lt z a is)), ← k) (sym e ∙ t)
 
   slot_right : (at : ℕ) → at % 16 ≡ 0 → at / 16 / 4 ≡ s → Right (At at z.length)
   slot_right at f h =

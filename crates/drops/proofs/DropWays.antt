@@ -17,7 +17,7 @@ use Rattle.rules.specs.Refusals.{all_zero}
 use Rattle.rules.specs.declared.Size.{Size}
 use Rattle.rules.proofs.BoolLaws.{same, refuted, or_left, or_right}
 use Rattle.rules.proofs.ImageLaws.{zeros}
-use Rattle.rules.proofs.PlaceLaws.{tag_at}
+use Rattle.rules.proofs.PlaceLaws.{tag_at_lem}
 use Rattle.rules.proofs.SizeLaws.{in_ways}
 use Rattle.sets.specs.Ways.{tag_in, any_held, is_masked}
 use Rattle.sets.proofs.TagTests.{test_nothing, test_not_global, test_of_pcid, test_held, test_global, test_pcid, test_page}
@@ -39,7 +39,7 @@ slots_cleared b u l h q f g e =
 -- ---- drop_slot
 module _ (b : List ℕ) (i mask want own whose n : ℕ) (q : IsImage b) (h : i < 100) (g : n ≡ word_at b (32 + i * 16)) where
   asked : (x y : Bool) → eqb (bit_and n mask) want ≡ x → (eqb (bit_and n 2) 2 || eqb (bit_and n own) whose) ≡ y → is_asked mask want own whose (tag_in b i) ≡ (x && y)
-  asked x y e f = rw (tag_at b i h, ← g, ← test_global n) (ap₂ ◌&&◌ e f)
+  asked x y e f = rw (tag_at_lem b i h, ← g, ← test_global n) (ap₂ ◌&&◌ e f)
 
   one_test : (c : Bool) → is_asked mask want own whose (tag_in b i) ≡ c → (j : ℕ) → masked_from i (i + 1) mask want own whose j (tag_in b j) ≡ (is_from i (i + 1) j && c)
   one_test c e j = in_one (λ x. is_asked mask want own whose (tag_in b x)) i j ∙ ap (λ (y : Bool). is_from i (i + 1) j && y) e

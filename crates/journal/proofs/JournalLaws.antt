@@ -119,9 +119,9 @@ is_encoded j q =
 word_in : (b : List ℕ) (n at : ℕ) → n < 328 → 8 * n ≡ at → get_or (words_of 328 b) n 0 ≡ word_at b at
 word_in b n at h e = rw e at (word_at_lem 328 n b h)
 
-pub held_at : (b : List ℕ) → (decode b).held ≡ word_at b 0
+pub held_at_lem : (b : List ℕ) → (decode b).held ≡ word_at b 0
 unfolding decode
-held_at b = word_in b 0 0 (omega arith) refl
+held_at_lem b = word_in b 0 0 (omega arith) refl
 
 pub lost_at : (b : List ℕ) → (decode b).lost ≡ word_at b 8
 unfolding decode

@@ -15,7 +15,7 @@ use Rattle.rules.proofs.BoolLaws.{same}
 use Rattle.words.proofs.Masks.{zero_or}
 use Rattle.journal.specs.Journal.{limit, decode}
 use Rattle.journal.specs.Calls.{is_over, is_unfit}
-use Rattle.journal.proofs.JournalLaws.{held_at, lost_at, reports_at, repeats_at}
+use Rattle.journal.proofs.JournalLaws.{held_at_lem, lost_at, reports_at, repeats_at}
 
 -- ---- counts or-ed
 high : (x : ℕ) → ltb limit x ≡ not (eqb (x / 2 ^ 32) 0)
@@ -53,9 +53,9 @@ module _ (b : List ℕ) where
 
   module _ (h : length b ≡ 2624) (held : ℕ) (e : held ≡ word_at b 0) where
     pub too_many : 64 < held → true ≡ is_unfit b
-    too_many g = rw (eq-eqb (length b) 2624 h, held_at b, ← e, lt-ltb 64 held g)
+    too_many g = rw (eq-eqb (length b) 2624 h, held_at_lem b, ← e, lt-ltb 64 held g)
 
     pub unfit_is : held ≤ 64 → (l r x : ℕ) → l ≡ word_at b 8 → r ≡ word_at b 16 → ltb limit x ≡ (ltb limit (bit_or l r) || is_over held (decode b).records)
         → ltb limit x ≡ is_unfit b
     unfit_is g l r x p q s =
-        rw (eq-eqb (length b) 2624 h, held_at b, lost_at b, reports_at b, ← e, ← p, ← q, le-ltb 64 held g) (s ∙ rw (or_over l r))
+        rw (eq-eqb (length b) 2624 h, held_at_lem b, lost_at b, reports_at b, ← e, ← p, ← q, le-ltb 64 held g) (s ∙ rw (or_over l r))

@@ -15,7 +15,7 @@ use Rattle.journal.specs.Journal.{Fault, Journal, encode, decode, IsJournal}
 use Rattle.journal.specs.Step.{more, counted, again, with_one_more, kept, missed, report}
 use Rattle.journal.specs.Calls.{is_long, is_unfit, Clears, Reports}
 use Rattle.journal.specs.Parts.{Fit, Finds}
-use Rattle.journal.proofs.JournalLaws.{held_at, lost_at, reports_at, repeats_at, decode_encode, journal_of, is_encoded}
+use Rattle.journal.proofs.JournalLaws.{held_at_lem, lost_at, reports_at, repeats_at, decode_encode, journal_of, is_encoded}
 use Rattle.journal.proofs.StepLaws.{counted_bytes, missed_bytes, one_more_bytes, again_bytes, stored_bytes, sound_counted}
 use Rattle.journal.proofs.Finding.{finds_hit, finds_none}
 
@@ -59,11 +59,11 @@ new_kept b b₁ u held p c t n h e g en e₁ eu =
 
 -- ---- a report that is not refused: counted, and then by what was found
 module _ (b : List ℕ) (held : ℕ) (eh : held ≡ word_at b 0) where
-  pub is_held : held ≡ (decode b).held
-  is_held = eh ∙ sym (held_at b)
+  pub is_held_lem : held ≡ (decode b).held
+  is_held_lem = eh ∙ sym (held_at_lem b)
 
   pub held_room : Fit b → held ≤ 64
-  held_room h = rw is_held h.room
+  held_room h = rw is_held_lem h.room
 
   pub place_room : Fit b → (i : ℕ) → i < held → i < 64
   place_room h i g = let m : held ≤ 64 = held_room h in omega arith
@@ -77,7 +77,7 @@ module _ (b b₁ : List ℕ) (h : Fit b) (e₁ : b₁ ≡ encode (counted (decod
 
   module _ (held : ℕ) (eh : held ≡ word_at b 0) where
     held_now : held ≡ (decode b).held
-    held_now = is_held b held eh
+    held_now = is_held_lem b held eh
 
     pub held_counted : held ≡ (decode b₁).held
     held_counted = held_now ∙ sym (ap (λ (j : Journal). j.held) says_counted)

@@ -155,10 +155,10 @@ slot_put_lem (suc n) (suc i) t f zs h =
     rw (mul-suc 2 i, add-two)
     (simp (eqb-zero-suc, eqb-suc-suc) (ap (λ (l : List ℕ). (f 0).tag ∷ (f 0).datum ∷ l) (slot_put_lem n i t (λ j. f (suc j)) zs (omega arith))))
 
-slot_at : (n i : ℕ) (f : ℕ → Slot) (zs : List ℕ) → i < n → take 2 (drop (2 * i) (slot_words n f ++ zs)) ≡ (f i).tag ∷ (f i).datum ∷ []
-slot_at zero i f zs h = absurd (omega arith)
-slot_at (suc n) zero f zs h = refl
-slot_at (suc n) (suc i) f zs h = rw (mul-suc 2 i, add-two) (slot_at n i (λ j. f (suc j)) zs (omega arith))
+slot_at_lem : (n i : ℕ) (f : ℕ → Slot) (zs : List ℕ) → i < n → take 2 (drop (2 * i) (slot_words n f ++ zs)) ≡ (f i).tag ∷ (f i).datum ∷ []
+slot_at_lem zero i f zs h = absurd (omega arith)
+slot_at_lem (suc n) zero f zs h = refl
+slot_at_lem (suc n) (suc i) f zs h = rw (mul-suc 2 i, add-two) (slot_at_lem n i (λ j. f (suc j)) zs (omega arith))
 
 -- its first word's number
 abbrev first : ℕ → ℕ
@@ -181,4 +181,4 @@ unfolding encode
 slot_bytes i s h =
     ap (take 16) (ap (λ (n : ℕ). drop n (encode s)) (sym (first_byte i)) ∙ sym (all_drop (first i) (words_in s)))
     ∙ sym (all_take 2 (drop (first i) (words_in s)))
-    ∙ ap bytes_of_all (slot_at 100 i s.slots (replicate 52 0) h)
+    ∙ ap bytes_of_all (slot_at_lem 100 i s.slots (replicate 52 0) h)

@@ -37,9 +37,9 @@ pub victims_at : (b : List ℕ) → (decode b).victims ≡ word_at b 24
 unfolding decode
 victims_at b = word_in b 3 (omega arith)
 
-pub tag_at : (b : List ℕ) (i : ℕ) → i < 100 → ((decode b).slots i).tag ≡ word_at b (32 + i * 16)
+pub tag_at_lem : (b : List ℕ) (i : ℕ) → i < 100 → ((decode b).slots i).tag ≡ word_at b (32 + i * 16)
 unfolding decode
-tag_at b i h =
+tag_at_lem b i h =
     let e : 8 * (4 + 2 * i) ≡ 32 + i * 16 = omega arith in
     rw e at (word_in b (4 + 2 * i) (omega arith))
 

@@ -13,7 +13,7 @@ use Rattle.rules.specs.Sizes.{page_number, set_of, ways}
 use Rattle.rules.specs.Image.{is_held}
 use Rattle.rules.specs.declared.Size.{Size}
 use Rattle.rules.proofs.BoolLaws.{same}
-use Rattle.rules.proofs.PlaceLaws.{tag_at}
+use Rattle.rules.proofs.PlaceLaws.{tag_at_lem}
 use Rattle.words.proofs.Laws.{word_next}
 use Rattle.words.proofs.Masks.{or_on}
 use Rattle.sets.specs.Ways.{tag_in, any_held}
@@ -32,7 +32,7 @@ odd_or a b = odd_is (bit_or a b) ∙ or_on 0 a b ∙ ap₂ ◌||◌ (sym (odd_is
 -- a tag is held if its lowest byte is odd
 low_byte : (b : List ℕ) (i at : ℕ) → i < 100 → at ≡ 32 + i * 16 → is_odd (get_or b at 0) ≡ is_held (tag_in b i)
 low_byte b i at h k =
-    let e : get_or b at 0 % 2 ≡ tag_in b i / 2 ^ 0 % 2 = omega (arith, tag_at b i h, ap (word_at b) k, word_next 7 at b) in
+    let e : get_or b at 0 % 2 ≡ tag_in b i / 2 ^ 0 % 2 = omega (arith, tag_at_lem b i h, ap (word_at b) k, word_next 7 at b) in
     ap (λ (x : ℕ). eqb x 1) e
 
 pub any_odd : (z : Size) (b : List ℕ) (a n s : ℕ) → n ≡ page_number z a → s ≡ z.first + n % z.sets → s < 25

@@ -1,10 +1,10 @@
 -- Counted, the bytes are a journal's again; then a way for each place of the fault: a held record, the next one, none.
-use Rattle.journal.proofs.Reporting.{is_held, held_room, place_room, journal_counted, held_counted, came_again, came_new, came_late}
+use Rattle.journal.proofs.Reporting.{is_held_lem, held_room, place_room, journal_counted, held_counted, came_again, came_new, came_late}
 use borrow.Author.Rules.{rules}
 use Rattle.journal.proofs.take.Goals as goal
 
 pub find-i-requires : goal.find-i-requires
-find-i-requires c = (search rules, (search is_held, search held_room))
+find-i-requires c = (search rules, (search is_held_lem, search held_room))
 
 pub again-requires : goal.again-requires
 again-requires c = (search journal_counted, search place_room)
