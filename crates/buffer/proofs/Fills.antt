@@ -1,7 +1,7 @@
 -- The ways through the functions of a fill: what each return of the code has to show, from the tests on its way.
 -- Bytes written to a part that was lent are written to the whole, further on (`within`), and after each write the bytes are an image's again.
 use Prim.Native.Nat.{ℕ, zero, suc, ◌+◌, ◌-◌, ◌*◌, ◌%◌, ◌^◌, ◌≤◌, ◌<◌}
-use mathlib.Core.Path.{◌≡◌, refl, ap, ap₂, sym, ◌∙◌}
+use mathlib.Core.Path.{◌≡◌, refl, ap, ap₂, sym, ◌∙◌, subst}
 use mathlib.Core.Bool.{Bool, true, false, cond, not}
 use mathlib.Core.List.{List, ◌++◌, append_assoc}
 use native.Mathlib.Omega.{arith}
@@ -9,15 +9,15 @@ use native.Mathlib.Nat.{add-zero, add_assoc}
 use lib.ListN.{length, take, drop, length-append, length-drop, take-append-drop}
 use lib.Seq.{length-take-le, take_at, drop_at, take-take, take-add, drop-drop, drop-append-le}
 use lib.Pow.{shl_exact}
-use borrow.Author.Tests.{lt-ltb, le-ltb}
 use Rattle.rules.specs.Bits.{is_on, bytes_of, word_at, word_put}
 use Rattle.rules.specs.Sizes.{slots_of}
 use Rattle.rules.specs.Image.{Image, victim, moved_on, encode, decode, Sound, IsImage}
-use Rattle.rules.specs.Buffer.{hit, miss, first, stored, with_victims}
+use Rattle.rules.specs.Buffer.{hit, first, stored, with_victims}
 use Rattle.rules.proofs.WordLaws.{bytes_length}
 use Rattle.rules.proofs.ImageLaws.{victims_bytes, store_bytes, decode_encode}
 use Rattle.rules.proofs.PlaceLaws.{tag_at_lem, victims_at, is_encoded, sound_victims}
-use Rattle.rules.proofs.SoundLaws.{victim_parts, moved_lt}
+use Rattle.rules.proofs.SoundLaws.{moved_lt}
+use Rattle.std.specs.Prelude.{Option, Some, None}
 use Rattle.buffer.specs.Fill.{is_free, IsLowest, slot_put, filled_at}
 
 -- ---- free_way: the ways below this one are held
@@ -33,12 +33,6 @@ at_way p set (suc (suc zero)) h = refl
 at_way p set (suc (suc (suc zero))) h = refl
 at_way p set (suc (suc (suc (suc way)))) h = absurd (omega arith)
 
-none_left : (p : ℕ → Bool) (set way : ℕ) → way ≤ 4 → 4 ≤ way → first p (drop way (slots_of set)) ≡ miss
-none_left p set way h g = let e : way ≡ 4 = omega arith in rw e
-
-pub none_passed : (s : Image) (set : ℕ) → Passed s set 0
-none_passed s set = record { low = omega arith; same = refl }
-
 module _ (b : List ℕ) (set way tag : ℕ) (on : Bool) (h : set < 25) (g : way < 4) (p : Passed (decode b) set way)
     (t : tag ≡ word_at b (32 + (4 * set + way) * 16)) (o : on ≡ is_on 0 tag) where
   free_is : is_free (decode b) (4 * set + way) ≡ not on
@@ -51,21 +45,14 @@ module _ (b : List ℕ) (set way tag : ℕ) (on : Bool) (h : set < 25) (g : way 
   pub passed_on : on ≡ true → Passed (decode b) set (way + 1)
   passed_on e = record { low = omega arith; same = rw e at here }
 
-  pub free_here : on ≡ false → IsLowest (decode b) set way
-  free_here e = record { right = rw (lt-ltb way 4 g) (rw e at here); low = omega arith }
-
-pub none_free : (s : Image) (set way : ℕ) → Passed s set way → 4 ≤ way → IsLowest s set way
-none_free s set way p h =
-    record { right = rw (le-ltb way 4 h) (p.same ∙ none_left (is_free s) set way p.low h); low = p.low }
+  pub free_here : on ≡ false → IsLowest (decode b) set (Some way)
+  free_here e = record { right = rw e at here; low = g }
 
 -- ---- moved_on
 shifted : (n w : ℕ) → n < 25 → w < 4 → w * 2 ^ (2 * n) % 2 ^ 64 ≡ w * 2 ^ (2 * n)
 shifted n w h g = shl_exact 2 (2 * n) 64 g (omega arith)
 
 module _ (n v w : ℕ) (h : n < 25) (e : w ≡ victim n v) where
-  pub victim_le : w * 2 ^ (2 * n) % 2 ^ 64 ≤ v
-  victim_le = rw (shifted n w h (omega arith), e) (omega (arith, victim_parts n v))
-
   pub moves : v - w * 2 ^ (2 * n) % 2 ^ 64 + (w + 1) % 4 * 2 ^ (2 * n) % 2 ^ 64 ≡ moved_on n v
   moves = rw (shifted n w h (omega arith), shifted n ((w + 1) % 4) h (omega arith), e)
 
@@ -134,10 +121,6 @@ way_stored b p set way tag datum q h g e =
     (within b (bytes_of 8 tag ++ bytes_of 8 datum) a 64 (way * 16) 16 (omega (arith, q.size)) (omega arith))
 
 -- ---- fill
-pub into_free : (b b' : List ℕ) (set way tag datum : ℕ) → IsLowest (decode b) set way → way < 4
-    → b' ≡ encode (stored (4 * set + way) (record { tag = tag; datum = datum }) (decode b)) → b' ≡ encode (filled_at set tag datum (decode b))
-into_free b b' set way tag datum f h e = rw (f.right, lt-ltb way 4 h) e
-
 module _ (b b₁ : List ℕ) (set v v' : ℕ) (q : IsImage b) (h : set < 25) (e : v ≡ word_at b 24) (m : v' ≡ moved_on set v) (w : b₁ ≡ word_put b 24 v') where
   now_victims : v ≡ (decode b).victims
   now_victims = e ∙ sym (victims_at b)
@@ -151,9 +134,10 @@ module _ (b b₁ : List ℕ) (set v v' : ℕ) (q : IsImage b) (h : set < 25) (e 
   pub image_moved : IsImage b₁
   image_moved = rw bytes_moved (is_encoded (with_victims v' (decode b)) sound_moved)
 
-  pub over_victim : (b₂ : List ℕ) (way tag datum n : ℕ) → IsLowest (decode b) set way → 4 ≤ way → n ≡ victim set v
+  pub over_victim : (b₂ : List ℕ) (o : Option ℕ) (tag datum n : ℕ) → IsLowest (decode b) set o → o ≡ None → n ≡ victim set v
       → b₂ ≡ encode (stored (4 * set + n) (record { tag = tag; datum = datum }) (decode b₁))
       → b₂ ≡ encode (filled_at set tag datum (decode b))
-  over_victim b₂ way tag datum n f g k c =
+  over_victim b₂ o tag datum n f g k c =
       let d : decode b₁ ≡ with_victims v' (decode b) = ap decode bytes_moved ∙ decode_encode (with_victims v' (decode b)) sound_moved in
-      rw (f.right, le-ltb way 4 g, ← now_victims, ← m, ← k) (rw d at c)
+      let m' : IsLowest (decode b) set None = subst (IsLowest (decode b) set) g f in
+      rw (m'.right, ← now_victims, ← m, ← k) (rw d at c)

@@ -9,24 +9,23 @@ use native.Mathlib.Omega.{arith}
 use native.Mathlib.Nat.{add-zero}
 use native.Mathlib.Numerals.{add-one, add-four, add_eight}
 use lib.Dec.{eqb}
-use lib.ListN.{length, get_or, drop}
+use lib.ListN.{get_or, drop}
 use lib.Seq.{drop-cons}
 use lib.Bits.{bit_and, bit_xor}
 use borrow.Author.Tests.{eq-eqb}
 use Rattle.rules.specs.Bits.{word_at}
-use Rattle.rules.specs.Sizes.{small, middle, large, Is, is_small, size_at, page_number, set_of, slots_of, ways}
-use Rattle.rules.specs.Image.{decode, pcid, is_held}
-use Rattle.rules.specs.Buffer.{contains, matches, Hit, hit, miss, first, all_ways, find}
+use Rattle.rules.specs.Sizes.{small, middle, large, Is, size_at, page_number, set_of, slots_of, ways}
+use Rattle.rules.specs.Image.{decode, pcid}
+use Rattle.rules.specs.Buffer.{matches, Hit, hit, miss, first, all_ways, find}
 use Rattle.rules.specs.declared.Size.{Size}
 use Rattle.rules.proofs.PlaceLaws.{tag_at_lem}
 use Rattle.rules.proofs.SizeLaws.{size_at_lem, set_lt, slot_size}
-use Rattle.rules.proofs.SlotLaws.{Hits, first_all}
 use Rattle.buffer.specs.declared.look.Place.{Place}
-use Rattle.buffer.specs.declared.look.Place.TheVariants.{At, Nowhere}
 use Rattle.buffer.specs.declared.look.Start.{Start}
-use Rattle.buffer.specs.declared.look.Start.TheVariants.{Small, Middle, Large, Nowhere as Absent}
-use Rattle.sets.specs.Ways.{tag_in, any_held}
-use Rattle.buffer.specs.Look.{hit_of, Right, Looks, holds_page, is_of, holds, FirstHeld, Begins}
+use Rattle.buffer.specs.declared.look.Start.TheVariants.{Small, Middle, Large, Nowhere}
+use Rattle.sets.specs.Ways.{tag_in}
+use Rattle.std.specs.Prelude.{Option, None}
+use Rattle.buffer.specs.Look.{place, hit_of, Right, Looks, holds_page, is_of, holds, FirstHeld, Begins}
 use Rattle.sets.proofs.TagTests.{test_same}
 
 -- ---- what is tested of a tag
@@ -50,72 +49,53 @@ module _ (b : List ℕ) (a : ℕ) (z : Size) (n s : ℕ) (is : Is z) (en : n ≡
       let g : i / 4 ≡ set_of z a = h ∙ own_set in
       rw (slot_size z a i is g, eq-eqb (i / 4) (set_of z a) g, ← en, tag_at_lem b i (omega (arith, set_lt z a is)), ← k) (sym e ∙ t)
 
-  slot_right : (at : ℕ) → at % 16 ≡ 0 → at / 16 / 4 ≡ s → Right (At at z.length)
+  slot_right : (at : ℕ) → at % 16 ≡ 0 → at / 16 / 4 ≡ s → Right (place at z.length)
   slot_right at f h =
       let g : at / 16 / 4 ≡ set_of z a = h ∙ own_set in
       (f, (omega (arith, set_lt z a is), ap (λ (y : Size). y.length) (sym (slot_size z a (at / 16) is g))))
 
-  of_set : (r : Place) → hit_of r ≡ first (holds b a) (slots_of s) → Right r → FirstHeld b a (ways z a) r
-  of_set r h g = subst (λ (y : ℕ). FirstHeld b a (slots_of y) r) own_set (record { held = h; right = g })
+  module _ (w : Size) (e : z ≡ w) where
+    of_set : (r : Option Place) → hit_of r ≡ first (holds b a) (slots_of s) → Right r → FirstHeld b a (ways w a) r
+    of_set r h g =
+        subst (λ (y : Size). FirstHeld b a (ways y a) r) e (subst (λ (y : ℕ). FirstHeld b a (slots_of y) r) own_set (record { held = h; right = g }))
 
-  found_in : (at i : ℕ) → at ≡ i * 16 → i / 4 ≡ s → hit i ≡ first (holds b a) (slots_of s) → FirstHeld b a (ways z a) (At at z.length)
-  found_in at i k h e =
-      let q : at / 16 ≡ i = omega arith in
-      of_set (At at z.length) (ap hit q ∙ e) (slot_right at (omega arith) (omega arith))
+    found_in : (at i : ℕ) → at ≡ i * 16 → i / 4 ≡ s → hit i ≡ first (holds b a) (slots_of s) → FirstHeld b a (ways w a) (place at z.length)
+    found_in at i k h f =
+        let q : at / 16 ≡ i = omega arith in
+        of_set (place at z.length) (ap hit q ∙ f) (slot_right at (omega arith) (omega arith))
 
-  -- the way through the four tests that ends at the k-th
-  module _ (x₀ : Bool) (e₀ : x₀ ≡ holds_page n (word_at b (32 + 64 * s))) where
-    slot_0 : (t : Bool) → x₀ ≡ t → holds b a (4 * s) ≡ t
-    slot_0 t = slot_holds (4 * s) (32 + 64 * s) x₀ t (omega arith) (omega arith) e₀
+    -- the way through the four tests that ends at the k-th
+    module _ (x₀ : Bool) (e₀ : x₀ ≡ holds_page n (word_at b (32 + 64 * s))) where
+      slot_0 : (t : Bool) → x₀ ≡ t → holds b a (4 * s) ≡ t
+      slot_0 t = slot_holds (4 * s) (32 + 64 * s) x₀ t (omega arith) (omega arith) e₀
 
-    pub way_0 : x₀ ≡ true → FirstHeld b a (ways z a) (At (64 * s) z.length)
-    way_0 t = found_in (64 * s) (4 * s) (omega arith) (omega arith) (rw (slot_0 true t))
+      pub way_0 : x₀ ≡ true → FirstHeld b a (ways w a) (place (64 * s) z.length)
+      way_0 t = found_in (64 * s) (4 * s) (omega arith) (omega arith) (rw (slot_0 true t))
 
-    module _ (f₀ : x₀ ≡ false) (x₁ : Bool) (e₁ : x₁ ≡ holds_page n (word_at b (48 + 64 * s))) where
-      slot_1 : (t : Bool) → x₁ ≡ t → holds b a (4 * s + 1) ≡ t
-      slot_1 t = slot_holds (4 * s + 1) (48 + 64 * s) x₁ t (omega arith) (omega arith) e₁
+      module _ (f₀ : x₀ ≡ false) (x₁ : Bool) (e₁ : x₁ ≡ holds_page n (word_at b (48 + 64 * s))) where
+        slot_1 : (t : Bool) → x₁ ≡ t → holds b a (4 * s + 1) ≡ t
+        slot_1 t = slot_holds (4 * s + 1) (48 + 64 * s) x₁ t (omega arith) (omega arith) e₁
 
-      pub way_1 : x₁ ≡ true → FirstHeld b a (ways z a) (At (64 * s + 16) z.length)
-      way_1 t = found_in (64 * s + 16) (4 * s + 1) (omega arith) (omega arith) (rw (slot_0 false f₀, slot_1 true t))
+        pub way_1 : x₁ ≡ true → FirstHeld b a (ways w a) (place (64 * s + 16) z.length)
+        way_1 t = found_in (64 * s + 16) (4 * s + 1) (omega arith) (omega arith) (rw (slot_0 false f₀, slot_1 true t))
 
-      module _ (f₁ : x₁ ≡ false) (x₂ : Bool) (e₂ : x₂ ≡ holds_page n (word_at b (64 + 64 * s))) where
-        slot_2 : (t : Bool) → x₂ ≡ t → holds b a (4 * s + 2) ≡ t
-        slot_2 t = slot_holds (4 * s + 2) (64 + 64 * s) x₂ t (omega arith) (omega arith) e₂
+        module _ (f₁ : x₁ ≡ false) (x₂ : Bool) (e₂ : x₂ ≡ holds_page n (word_at b (64 + 64 * s))) where
+          slot_2 : (t : Bool) → x₂ ≡ t → holds b a (4 * s + 2) ≡ t
+          slot_2 t = slot_holds (4 * s + 2) (64 + 64 * s) x₂ t (omega arith) (omega arith) e₂
 
-        pub way_2 : x₂ ≡ true → FirstHeld b a (ways z a) (At (64 * s + 32) z.length)
-        way_2 t = found_in (64 * s + 32) (4 * s + 2) (omega arith) (omega arith) (rw (slot_0 false f₀, slot_1 false f₁, slot_2 true t))
+          pub way_2 : x₂ ≡ true → FirstHeld b a (ways w a) (place (64 * s + 32) z.length)
+          way_2 t = found_in (64 * s + 32) (4 * s + 2) (omega arith) (omega arith) (rw (slot_0 false f₀, slot_1 false f₁, slot_2 true t))
 
-        module _ (f₂ : x₂ ≡ false) (x₃ : Bool) (e₃ : x₃ ≡ holds_page n (word_at b (80 + 64 * s))) where
-          slot_3 : (t : Bool) → x₃ ≡ t → holds b a (4 * s + 3) ≡ t
-          slot_3 t = slot_holds (4 * s + 3) (80 + 64 * s) x₃ t (omega arith) (omega arith) e₃
+          module _ (f₂ : x₂ ≡ false) (x₃ : Bool) (e₃ : x₃ ≡ holds_page n (word_at b (80 + 64 * s))) where
+            slot_3 : (t : Bool) → x₃ ≡ t → holds b a (4 * s + 3) ≡ t
+            slot_3 t = slot_holds (4 * s + 3) (80 + 64 * s) x₃ t (omega arith) (omega arith) e₃
 
-          pub way_3 : x₃ ≡ true → FirstHeld b a (ways z a) (At (64 * s + 48) z.length)
-          way_3 t =
-              found_in (64 * s + 48) (4 * s + 3) (omega arith) (omega arith) (rw (slot_0 false f₀, slot_1 false f₁, slot_2 false f₂, slot_3 true t))
+            pub way_3 : x₃ ≡ true → FirstHeld b a (ways w a) (place (64 * s + 48) z.length)
+            way_3 t =
+                found_in (64 * s + 48) (4 * s + 3) (omega arith) (omega arith) (rw (slot_0 false f₀, slot_1 false f₁, slot_2 false f₂, slot_3 true t))
 
-          pub no_way : x₃ ≡ false → FirstHeld b a (ways z a) Nowhere
-          no_way f₃ = of_set Nowhere (rw (slot_0 false f₀, slot_1 false f₁, slot_2 false f₂, slot_3 false f₃)) tt
-
--- what is held in a set of a size is as long as that size's pages
-length_is : (b : List ℕ) (a : ℕ) (z : Size) (at l : ℕ) → Is z → FirstHeld b a (ways z a) (At at l) → l ≡ z.length
-length_is b a z at l is h =
-    let g : at / 16 / 4 ≡ set_of z a =
-    subst (Hits (λ i. i / 4 ≡ set_of z a)) (sym h.held)
-    (first_all (λ i. i / 4 ≡ set_of z a) (holds b a) (ways z a) (omega arith, (omega arith, (omega arith, (omega arith, tt))))) in
-    h.right.1.1 ∙ ap (λ (y : Size). y.length) (slot_size z a (at / 16) is g)
-
--- ---- where no slot is held, none holds the page
-none_holds : (b : List ℕ) (a : ℕ) (is : List ℕ) → any_held b is ≡ false → miss ≡ first (holds b a) is
-none_holds b a [] e = refl
-none_holds b a (i ∷ is) e = go (is_held (tag_in b i)) e (none_holds b a is)
-  where
-    go : (t : Bool) → (t || any_held b is) ≡ false → (any_held b is ≡ false → miss ≡ first (holds b a) is)
-        → miss ≡ cond (t && contains a i (tag_in b i)) (hit i) (first (holds b a) is)
-    go true f k = cc
-    go false f k = k f
-
-none_used : (b : List ℕ) (a : ℕ) (z : Size) (x : Bool) → x ≡ any_held b (ways z a) → x ≡ false → FirstHeld b a (ways z a) Nowhere
-none_used b a z x e f = record { held = none_holds b a (ways z a) (sym e ∙ f); right = tt }
+            pub no_way : x₃ ≡ false → FirstHeld b a (ways w a) None
+            no_way f₃ = of_set None (rw (slot_0 false f₀, slot_1 false f₁, slot_2 false f₂, slot_3 false f₃)) tt
 
 -- ---- one list of slots after the other, and so the three sizes
 abbrev or_else : Hit → Hit → Hit
@@ -132,74 +112,36 @@ first_append p (x ∷ xs) ys = go (p x) (first_append p xs ys)
     go false e = e
 
 module _ (b : List ℕ) (a : ℕ) (xs ys : List ℕ) where
-  here : (at l : ℕ) → FirstHeld b a xs (At at l) → FirstHeld b a (xs ++ ys) (At at l)
+  here : (at l : ℕ) → FirstHeld b a xs (place at l) → FirstHeld b a (xs ++ ys) (place at l)
   here at l h =
       record {
         held = ap (λ (o : Hit). or_else o (first (holds b a) ys)) h.held ∙ sym (first_append (holds b a) xs ys);
         right = h.right;
       }
 
-  later : (r : Place) → FirstHeld b a xs Nowhere → FirstHeld b a ys r → FirstHeld b a (xs ++ ys) r
+  later : (r : Option Place) → FirstHeld b a xs None → FirstHeld b a ys r → FirstHeld b a (xs ++ ys) r
   later r h g =
       record {
         held = g.held ∙ ap (λ (o : Hit). or_else o (first (holds b a) ys)) h.held ∙ sym (first_append (holds b a) xs ys);
         right = g.right;
       }
 
-pub held_is : (b : List ℕ) (a : ℕ) (is : List ℕ) (r q : Place) → FirstHeld b a is r → r ≡ q → FirstHeld b a is q
+pub held_is : (b : List ℕ) (a : ℕ) (is : List ℕ) (r q : Option Place) → FirstHeld b a is r → r ≡ q → FirstHeld b a is q
 held_is b a is r q h e = subst (FirstHeld b a is) e h
 
-pub of_size : (b : List ℕ) (a : ℕ) (r : Place) (y z : Size) → y ≡ z → FirstHeld b a (ways y a) r → FirstHeld b a (ways z a) r
-of_size b a r y z e h = subst (λ (x : Size). FirstHeld b a (ways x a) r) e h
-
-pub held_middle : (b : List ℕ) (a : ℕ) → FirstHeld b a (ways small a) Nowhere → (r : Place) → FirstHeld b a (ways middle a) r
-    → (at l : ℕ) → r ≡ At at l → FirstHeld b a (all_ways a) (At at l)
+pub held_middle : (b : List ℕ) (a : ℕ) → FirstHeld b a (ways small a) None → (r : Option Place) → FirstHeld b a (ways middle a) r
+    → (at l : ℕ) → r ≡ place at l → FirstHeld b a (all_ways a) (place at l)
 held_middle b a h r g at l e =
-    later b a (ways small a) (ways middle a ++ ways large a) (At at l) h
-    (here b a (ways middle a) (ways large a) at l (held_is b a (ways middle a) r (At at l) g e))
+    later b a (ways small a) (ways middle a ++ ways large a) (place at l) h
+    (here b a (ways middle a) (ways large a) at l (held_is b a (ways middle a) r (place at l) g e))
 
-pub none_middle : (b : List ℕ) (a : ℕ) → FirstHeld b a (ways small a) Nowhere → (r : Place) → FirstHeld b a (ways middle a) r
-    → r ≡ Nowhere → FirstHeld b a (ways small a ++ ways middle a) Nowhere
-none_middle b a h r g e = later b a (ways small a) (ways middle a) Nowhere h (held_is b a (ways middle a) r Nowhere g e)
-
-pub held_large : (b : List ℕ) (a : ℕ) → FirstHeld b a (ways small a ++ ways middle a) Nowhere → (r : Place) → FirstHeld b a (ways large a) r
+pub held_large : (b : List ℕ) (a : ℕ) → FirstHeld b a (ways small a ++ ways middle a) None → (r : Option Place) → FirstHeld b a (ways large a) r
     → FirstHeld b a (all_ways a) r
 held_large b a h r g = later b a (ways small a ++ ways middle a) (ways large a) r h g
 
--- ---- where it begins, from what was asked of each size
-module _ (b : List ℕ) (a : ℕ) (z : Size) (r : Place) (e : z ≡ small) (h : FirstHeld b a (ways z a) r) where
-  of_small : (q : Place) → r ≡ q → FirstHeld b a (ways small a) q
-  of_small q f = held_is b a (ways small a) r q (of_size b a r z small e h) f
-
-  pub at_small : (at l : ℕ) → r ≡ At at l → Begins b a (Small at)
-  at_small at l f =
-      let g : FirstHeld b a (ways small a) (At at l) = of_small (At at l) f in
-      subst (λ (x : ℕ). FirstHeld b a (all_ways a) (At at x)) (length_is b a small at l is_small g)
-      (here b a (ways small a) (ways middle a ++ ways large a) at l g)
-
-  module _ (f : r ≡ Nowhere) where
-    pub at_middle : Begins b a Middle
-    at_middle = of_small Nowhere f
-
-    module _ (y : Size) (x : Bool) (d : y ≡ middle) (c : x ≡ any_held b (ways y a)) (n : x ≡ false) where
-      pub at_large : Begins b a Large
-      at_large = none_middle b a at_middle Nowhere (of_size b a Nowhere y middle d (none_used b a y x c n)) refl
-
-      pub at_end : (w : Size) (v : Bool) → w ≡ large → v ≡ any_held b (ways w a) → v ≡ false → Begins b a Absent
-      at_end w v k m o = held_large b a at_large Nowhere (of_size b a Nowhere w large k (none_used b a w v m o))
-
 -- ---- what is known, by where it begins
 module _ (b : List ℕ) (a : ℕ) (r : Start) (h : Begins b a r) where
-  pub begins_small : (at : ℕ) → r ≡ Small at → FirstHeld b a (all_ways a) (At at small.length)
-  begins_small at e = subst (Begins b a) e h
-
-  pub begins_middle : r ≡ Middle → FirstHeld b a (ways small a) Nowhere
-  begins_middle e = subst (Begins b a) e h
-
-  pub begins_large : r ≡ Large → FirstHeld b a (ways small a ++ ways middle a) Nowhere
-  begins_large e = subst (Begins b a) e h
-
-  pub begins_absent : r ≡ Absent → FirstHeld b a (all_ways a) Nowhere
+  pub begins_absent : r ≡ Nowhere → FirstHeld b a (all_ways a) None
   begins_absent e = subst (Begins b a) e h
 
 -- ---- the first that holds the page, and is one's own, is the first match; where none holds it there is none
@@ -222,8 +164,8 @@ none_first p q m e (x ∷ xs) h = rw (e x) (go (q x) h (λ f. none_first p q m e
 abbrev is_match : List ℕ → ℕ → ℕ → Bool
 is_match b a i = matches (pcid (decode b)) a i (tag_in b i)
 
-pub look_own : (b : List ℕ) (a at l p : ℕ) (x : Bool) → FirstHeld b a (all_ways a) (At at l) → p ≡ pcid (decode b) → x ≡ is_of p (tag_in b (at / 16))
-    → x ≡ true → Looks b a (At at l)
+pub look_own : (b : List ℕ) (a at l p : ℕ) (x : Bool) → FirstHeld b a (all_ways a) (place at l) → p ≡ pcid (decode b) → x ≡ is_of p (tag_in b (at / 16))
+    → x ≡ true → Looks b a (place at l)
 look_own b a at l p x h ep ex t =
     record {
       first =
@@ -232,7 +174,7 @@ look_own b a at l p x h ep ex t =
       right = h.right;
     }
 
-pub look_none : (b : List ℕ) (a : ℕ) → FirstHeld b a (all_ways a) Nowhere → Looks b a Nowhere
+pub look_none : (b : List ℕ) (a : ℕ) → FirstHeld b a (all_ways a) None → Looks b a None
 look_none b a h =
     record {
       first = none_first (is_match b a) (holds b a) (λ j. is_of (pcid (decode b)) (tag_in b j)) (λ j. refl) (all_ways a) h.held;
@@ -243,14 +185,6 @@ look_none b a h =
 pub record Searched (b : List ℕ) (a k : ℕ) : Type 0 where
   pub few : k ≤ 12
   pub rest : find (decode b) a ≡ first (is_match b a) (drop k (all_ways a))
-
-pub left_all : (b : List ℕ) (a : ℕ) → Searched b a 0
-left_all b a = record { few = omega arith; rest = refl }
-
-pub look_end : (b : List ℕ) (a k : ℕ) → Searched b a k → 12 ≤ k → Looks b a Nowhere
-look_end b a k h g =
-    let e : k ≡ 12 = omega (arith, h.few) in
-    record { first = sym (h.rest ∙ ap (λ (x : ℕ). first (is_match b a) (drop x (all_ways a))) e); right = tt }
 
 -- the k-th way
 four : (s r : ℕ) (xs : List ℕ) → r < 4 → get_or (4 * s ∷ (4 * s + 1) ∷ (4 * s + 2) ∷ (4 * s + 3) ∷ xs) r 0 ≡ 4 * s + r
@@ -289,7 +223,7 @@ module _ (b : List ℕ) (a k : ℕ) (h : Searched b a k) (g : k < 12) (z : Size)
       (rw (← ep) (sym (rw slot_is at ey))) ∙ e in
       h.rest ∙ ap (first (is_match b a)) (drop-cons (all_ways a) k 0 g) ∙ rw (this_way, m, add-one k)
 
-  pub look_found : (x && y) ≡ true → Looks b a (At (16 * (4 * s + k % 4)) z.length)
+  pub look_found : (x && y) ≡ true → Looks b a (place (16 * (4 * s + k % 4)) z.length)
   look_found e =
       record {
         first = ap hit slot_is ∙ sym (decided true e);

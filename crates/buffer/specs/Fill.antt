@@ -1,5 +1,5 @@
 -- A fill of a set, in steps: which way is free, a slot's two words among a set's 64 bytes, and the fill as a whole.
-use Rattle.std.specs.Prelude.{ℕ, ◌+◌, ◌*◌, ◌≤◌, ◌≡◌, Bool, cond, not, List, ◌++◌, take, drop, ltb}
+use Rattle.std.specs.Prelude.{ℕ, ◌+◌, ◌*◌, ◌<◌, ◌≡◌, Bool, not, Option, Some, None, IfSome, List, ◌++◌, take, drop}
 use Rattle.rules.specs.Bits.{bytes_of}
 use Rattle.rules.specs.Image.{Image, is_held}
 use Rattle.rules.specs.Sizes.{slots_of}
@@ -8,14 +8,15 @@ use Rattle.rules.specs.Buffer.{Hit, hit, miss, first, put}
 abbrev pub is_free : Image → ℕ → Bool
 is_free s i = not (is_held (s.slots i).tag)
 
--- a way's number, 0 to 3, as its slot; 4 is none
-abbrev pub way_hit : ℕ → ℕ → Hit
-way_hit set way = cond (ltb way 4) (hit (4 * set + way)) miss
+-- a way's number, 0 to 3, as its slot
+abbrev pub way_hit : ℕ → Option ℕ → Hit
+way_hit set (Some way) = hit (4 * set + way)
+way_hit set None = miss
 
--- way is the lowest free way of a set, or 4
-pub record IsLowest (s : Image) (set way : ℕ) : Type 0 where
+-- the lowest free way of a set, if there is one
+pub record IsLowest (s : Image) (set : ℕ) (way : Option ℕ) : Type 0 where
   pub right : first (is_free s) (slots_of set) ≡ way_hit set way
-  pub low : way ≤ 4
+  pub low : IfSome way (λ w. w < 4)
 
 -- a slot's two words are now in a set's 64 bytes
 abbrev pub slot_put : List ℕ → ℕ → ℕ → ℕ → List ℕ

@@ -4,21 +4,18 @@ ghost use Rattle.rules.specs.Image.{victim as victimOf, moved_on, encode, decode
 ghost use Rattle.rules.specs.Buffer.{stored};
 ghost use Rattle.buffer.specs.Fill.{IsLowest, slot_put, filled_at};
 
-// The lowest free way of a set, or 4.
-fn free_way(image: &[u8], set: usize) -> usize
-    requires { (length image.now ≡ 2048) × (set < 25) }
+// The lowest free way of a set.
+fn free_way(image: &[u8; 2048], set: usize) -> Option<usize>
+    requires { set < 25 }
     ensures { IsLowest (decode image.now) set result }
 {
-    let mut way = 0;
-    while way < 4 {
+    for way in 0..4 {
         let tag = words::read_word(image, 32 + (4 * set + way) * 16);
-        if words::is_on(0, tag) {
-            way += 1;
-        } else {
-            return way;
+        if !words::is_on(0, tag) {
+            return Some(way);
         }
     }
-    way
+    None
 }
 
 // A set's victim, out of the victims of all sets.
@@ -49,7 +46,7 @@ fn store(slots: &mut [u8], way: usize, tag: u64, datum: u64)
 }
 
 // The same of the image: the set's part is lent on, and only it is written.
-fn store_way(image: &mut [u8], set: usize, way: usize, tag: u64, datum: u64)
+fn store_way(image: &mut [u8; 2048], set: usize, way: usize, tag: u64, datum: u64)
     requires { IsImage image.old × ((set < 25) × (way < 4)) }
     ensures { image.new ≡ encode (stored (4 * set + way) (record { tag = tag; datum = datum }) (decode image.old)) }
 {
@@ -59,13 +56,12 @@ fn store_way(image: &mut [u8], set: usize, way: usize, tag: u64, datum: u64)
 }
 
 // Word 3, the victims, is written only where no way is free.
-pub fn fill(image: &mut [u8], set: usize, tag: u64, datum: u64)
+pub fn fill(image: &mut [u8; 2048], set: usize, tag: u64, datum: u64)
     requires { IsImage image.old × (set < 25) }
     ensures { image.new ≡ encode (filled_at set tag datum (decode image.old)) }
 {
-    let free = free_way(image, set);
-    if free < 4 {
-        store_way(image, set, free, tag, datum);
+    if let Some(way) = free_way(image, set) {
+        store_way(image, set, way, tag, datum);
         return;
     }
     let victims = words::read_word(image, 24);

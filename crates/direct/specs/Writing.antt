@@ -10,7 +10,7 @@ use Rattle.rules.specs.declared.Answer.TheVariants.{Address}
 use Rattle.sets.specs.Ways.{tag_in}
 use Rattle.buffer.specs.Look.{is_of}
 use Rattle.numbers.specs.Needs.{ForEach, Known}
-use Rattle.records.specs.Record.{Recorded}
+use Rattle.records.specs.Record.{Holds}
 use Rattle.paging.specs.Paged.{Usable}
 
 -- what is lent: the bytes of an image, with a width, a record's room, memory that is whole, and the number of an access
@@ -20,9 +20,9 @@ pub record Lent (b r : List ℕ) (mem : Memory) (n : ℕ) : Type 0 where
   pub whole : Whole mem
   pub known : Known (decode b).flags n
 
--- what is left of an outcome over parts: the answer in its record, the number that is returned, bytes and memory
-pub record Writes (o : After) (r' b' : List ℕ) (mem' : Memory) (n : ℕ) : Type 0 where
-  pub answer : Recorded o.answer r' n
+-- what is left of an outcome over parts: the answer in its record, bytes and memory
+pub record Writes (o : After) (r' b' : List ℕ) (mem' : Memory) : Type 0 where
+  pub answer : Holds (numbers o.answer) r'
   pub image : b' ≡ encode o.image
   pub memory : mem' ≡ o.memory
 

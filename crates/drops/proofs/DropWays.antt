@@ -5,17 +5,17 @@ use mathlib.Core.Bool.{Bool, true, false, ◌&&◌, ◌||◌, and-true, and-fals
 use mathlib.Core.List.{List, ◌++◌, Memᴰ}
 use native.Mathlib.Omega.{arith}
 use lib.ListN.{length, take, drop, replicate, length-drop, take-append-drop}
-use lib.Seq.{length-take-le, take-take}
+use lib.Seq.{length-take-le}
 use lib.Dec.{eqb}
 use lib.Bits.{bit_and}
-use borrow.Author.Tests.{eq-eqb, ne_eqb, eqb-true}
-use Rattle.rules.specs.Bits.{word, word_at}
+use borrow.Author.Tests.{eqb-true}
+use Rattle.rules.specs.Bits.{word_at}
 use Rattle.rules.specs.Sizes.{small, middle, large, page_number, set_of, ways}
 use Rattle.rules.specs.Image.{is_held, is_global, pcid_in, page_in, IsImage}
 use Rattle.rules.specs.Buffer.{contains, matches}
 use Rattle.rules.specs.Refusals.{all_zero}
 use Rattle.rules.specs.declared.Size.{Size}
-use Rattle.rules.proofs.BoolLaws.{same, refuted, or_left, or_right}
+use Rattle.rules.proofs.BoolLaws.{same, or_left, or_right}
 use Rattle.rules.proofs.ImageLaws.{zeros}
 use Rattle.rules.proofs.PlaceLaws.{tag_at_lem}
 use Rattle.rules.proofs.SizeLaws.{in_ways}
@@ -38,8 +38,8 @@ slots_cleared b u l h q f g e =
 
 -- ---- drop_slot
 module _ (b : List ℕ) (i mask want own whose n : ℕ) (q : IsImage b) (h : i < 100) (g : n ≡ word_at b (32 + i * 16)) where
-  asked : (x y : Bool) → eqb (bit_and n mask) want ≡ x → (eqb (bit_and n 2) 2 || eqb (bit_and n own) whose) ≡ y → is_asked mask want own whose (tag_in b i) ≡ (x && y)
-  asked x y e f = rw (tag_at_lem b i h, ← g, ← test_global n) (ap₂ ◌&&◌ e f)
+  asked : (x o y : Bool) → x ≡ is_masked mask want n → o ≡ is_masked own whose n → (eqb (bit_and n 2) 2 || o) ≡ y → is_asked mask want own whose (tag_in b i) ≡ (x && y)
+  asked x o y e f k = rw (tag_at_lem b i h, ← g, ← test_global n) (ap₂ ◌&&◌ (sym e) (ap (λ (c : Bool). eqb (bit_and n 2) 2 || c) (sym f) ∙ k))
 
   one_test : (c : Bool) → is_asked mask want own whose (tag_in b i) ≡ c → (j : ℕ) → masked_from i (i + 1) mask want own whose j (tag_in b j) ≡ (is_from i (i + 1) j && c)
   one_test c e j = in_one (λ x. is_asked mask want own whose (tag_in b x)) i j ∙ ap (λ (y : Bool). is_from i (i + 1) j && y) e
@@ -47,17 +47,19 @@ module _ (b : List ℕ) (i mask want own whose n : ℕ) (q : IsImage b) (h : i <
   kept : is_asked mask want own whose (tag_in b i) ≡ false → b ≡ dropped_in (masked_from i (i + 1) mask want own whose) b
   kept e = none_dropped (masked_from i (i + 1) mask want own whose) b q (λ j k. one_test false e j ∙ and-false (is_from i (i + 1) j))
 
-  pub slot_dropped : (b' : List ℕ) → bit_and n mask ≡ want → (eqb (bit_and n 2) 2 || eqb (bit_and n own) whose) ≡ true
+  pub slot_dropped : (b' : List ℕ) (x o : Bool) → x ≡ is_masked mask want n → x ≡ true → o ≡ is_masked own whose n → (eqb (bit_and n 2) 2 || o) ≡ true
       → b' ≡ dropped_in (every_from i (i + 1)) b → b' ≡ dropped_in (masked_from i (i + 1) mask want own whose) b
-  slot_dropped b' e f d =
-      d ∙ dropped_as (every_from i (i + 1)) b q _ (λ j k. sym (one_test true (asked true true (eq-eqb _ _ e) f) j ∙ and-true _))
+  slot_dropped b' x o e t f k d =
+      d
+      ∙ dropped_as (every_from i (i + 1)) b q _
+      (λ j m. sym (one_test true (asked x o true e f k ∙ ap (λ (c : Bool). c && true) t) j ∙ and-true _))
 
-  pub slot_of_another : bit_and n mask ≡ want → (eqb (bit_and n 2) 2 || eqb (bit_and n own) whose) ≡ false
+  pub slot_of_another : (x o : Bool) → x ≡ is_masked mask want n → o ≡ is_masked own whose n → (eqb (bit_and n 2) 2 || o) ≡ false
       → b ≡ dropped_in (masked_from i (i + 1) mask want own whose) b
-  slot_of_another e f = kept (asked true false (eq-eqb _ _ e) f)
+  slot_of_another x o e f k = kept (asked x o false e f k ∙ and-false x)
 
-  pub slot_unwanted : (bit_and n mask ≡ want → ⊥) → b ≡ dropped_in (masked_from i (i + 1) mask want own whose) b
-  slot_unwanted e = kept (asked false _ (ne_eqb (bit_and n mask) want e) refl)
+  pub slot_unwanted : (x : Bool) → x ≡ is_masked mask want n → x ≡ false → b ≡ dropped_in (masked_from i (i + 1) mask want own whose) b
+  slot_unwanted x e t = kept (asked x _ _ e refl refl ∙ ap (λ (c : Bool). c && (eqb (bit_and n 2) 2 || is_masked own whose n)) t)
 
 -- ---- drop_from and sweep: the bytes once the slots before i are done
 pub record Swept (b b' : List ℕ) (l h i mask want own whose : ℕ) : Type 0 where
@@ -84,6 +86,12 @@ module _ (b : List ℕ) (l mask want own whose : ℕ) (q : IsImage b) where
       (λ j m. sym (and-or_distrib_right (is_from l i j) (is_from i (i + k) j) (is_asked mask want own whose (tag_in b j)))
       ∙ ap (λ (c : Bool). c && is_asked mask want own whose (tag_in b j)) (joined l i (i + k) j g (omega arith)))
 
+  pub swept_block : (b' b'' : List ℕ) (n : ℕ) → l ≤ n * 20 → b' ≡ dropped_in (masked_from l (n * 20) mask want own whose) b
+      → b'' ≡ dropped_in (masked_from (n * 20) (n * 20 + 20) mask want own whose) b' → b'' ≡ dropped_in (masked_from l ((n + 1) * 20) mask want own whose) b
+  swept_block b' b'' n g d e =
+      let q : (n + 1) * 20 ≡ n * 20 + 20 = omega arith in
+      rw q (swept_more b' b'' (n * 20) 20 g d e)
+
   pub swept_all : (b' : List ℕ) (h i : ℕ) → Swept b b' l h i mask want own whose → h ≤ i → b' ≡ dropped_in (masked_from l h mask want own whose) b
   swept_all b' h i w g =
       let e : i ≡ h = omega arith in
@@ -98,13 +106,6 @@ module _ (b : List ℕ) (l : ℕ) (n : length b ≡ 2048) (h : l ≤ 80) where
   block_zeros z =
       let m : length block ≡ 320 = length-take-le 320 (drop (32 + l * 16) b) (rw length-drop (omega arith)) in
       rw m at (zeros block z)
-
-  pub tag_not_zero : (t : ℕ) → t ≡ word_at b (32 + l * 16) → (t ≡ 0 → ⊥) → false ≡ all_zero block
-  tag_not_zero t e f =
-      sym (refuted (all_zero block) (λ z. f (e ∙ ap word (sym (take-take 8 320 (drop (32 + l * 16) b) (omega arith)) ∙ ap (take 8) (block_zeros z)))))
-
-  pub all_gathered : (x : ℕ) → eqb x 0 ≡ all_zero (take (32 + l * 16 + 320 - (32 + l * 16)) (drop (32 + l * 16) b)) → eqb x 0 ≡ all_zero block
-  all_gathered x e = let k : 32 + l * 16 + 320 - (32 + l * 16) ≡ 320 = omega arith in rw k at e
 
 -- ---- drop_block: what is zero is as if it had been emptied, and what was emptied has nothing more to drop
 pub block_passed : (b : List ℕ) (l mask want : ℕ) (x : Bool) → IsImage b → l ≤ 80 → x ≡ all_zero (take 320 (drop (32 + l * 16) b)) → x ≡ true
@@ -124,9 +125,9 @@ block_passed b l mask want x q h e t =
 asks_nothing : (mask want t : ℕ) → is_asked mask want 0 0 t ≡ is_masked mask want t
 asks_nothing mask want t = rw (test_nothing t, or-true (is_global t)) (and-true (is_masked mask want t))
 
-pub all_swept : (b b' : List ℕ) (i mask want : ℕ) → IsImage b → Swept b b' 0 100 i mask want 0 0 → 100 ≤ i → b' ≡ dropped_in (masked mask want) b
-all_swept b b' i mask want q w g =
-    swept_all b 0 mask want 0 0 q b' 100 i w g
+pub all_swept : (b b' : List ℕ) (n mask want : ℕ) → IsImage b → Swept b b' 0 100 (n * 20) mask want 0 0 → 5 ≤ n → b' ≡ dropped_in (masked mask want) b
+all_swept b b' n mask want q w g =
+    swept_all b 0 mask want 0 0 q b' 100 (n * 20) w (omega arith)
     ∙ dropped_as (masked_from 0 100 mask want 0 0) b q (masked mask want) (λ j k. rw (from_all j k) (asks_nothing mask want (tag_in b j)))
 
 pub everything_dropped : (b b' : List ℕ) → IsImage b → b' ≡ dropped_in (every_from 0 100) b → b' ≡ dropped_in every b

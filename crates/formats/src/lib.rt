@@ -6,14 +6,12 @@ ghost use Rattle.std.specs.Prelude.{◌≡◌, ◌+◌, ◌≤◌, ◌<◌, ◌�
 ghost use Rattle.rules.specs.Formats.{◌‥◌, xd, rows, ranges_of};
 ghost use Rattle.formats.specs.Ranges.{ones_in, mask_of};
 
-const ALL: u64 = 0xFFFF_FFFF_FFFF_FFFF;
-
 // Bits from high down to low: all from high down, less those below low.
 pub fn range(high: u64, low: u64) -> u64
     requires { (high < 64) × ((low < 64) × (low ≤ high + 1)) }
     ensures { result ≡ ones_in (high ‥ low) }
 {
-    (ALL >> (63 - high)) - ((1 << low) - 1)
+    (u64::MAX >> (63 - high)) - ((1 << low) - 1)
 }
 
 // What every row ends in: bits 51..M, and bit 63, XD, while NXE is off.
@@ -33,23 +31,13 @@ pub fn reserved(level: u64, page: bool, m: u64, nxe: bool) -> u64
     ensures { result ≡ mask_of (ranges_of (rows m nxe) level page) }
 {
     let rest = common(m, nxe);
-    if (level == 4) & !page {
-        return range(7, 7) | rest;
+    match (level, page) {
+        (4, false) => range(7, 7) | rest,
+        (3, true) => range(29, 13) | rest,
+        (3, false) => rest,
+        (2, true) => range(20, 13) | rest,
+        (2, false) => rest,
+        (1, true) => rest,
+        _ => 0,
     }
-    if (level == 3) & page {
-        return range(29, 13) | rest;
-    }
-    if (level == 3) & !page {
-        return rest;
-    }
-    if (level == 2) & page {
-        return range(20, 13) | rest;
-    }
-    if (level == 2) & !page {
-        return rest;
-    }
-    if (level == 1) & page {
-        return rest;
-    }
-    0
 }

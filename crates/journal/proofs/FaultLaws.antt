@@ -1,6 +1,6 @@
 -- Faults in a list, and in the list with one more report: which are there, which are distinct, how many come before the first of one, how often one
 -- comes, how many are of others. Each law goes by induction over the list, and there by whether a fault is the one asked for.
-use Prim.Native.Nat.{ℕ, zero, suc, ◌+◌, ◌-◌, ◌<◌}
+use Prim.Native.Nat.{ℕ, zero, suc, ◌+◌, ◌<◌}
 use mathlib.Core.Path.{◌≡◌, refl, ap, sym, ◌∙◌}
 use mathlib.Core.Bool.{Bool, true, false, cond, ◌||◌, ◌&&◌, false≢true, or-true}
 use mathlib.Core.List.{List, [], ◌∷◌, ◌++◌, append-nil}

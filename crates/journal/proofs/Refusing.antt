@@ -1,7 +1,7 @@
 -- The ways through refusal 9. Counts or-ed together are above the limit exactly if one of them is, since the limit is all ones.
 use Prim.Native.Nat.{ℕ, ◌+◌, ◌*◌, ◌/◌, ◌^◌, ◌≤◌, ◌<◌}
 use mathlib.Core.Path.{◌≡◌, refl, sym, ◌∙◌}
-use mathlib.Core.Bool.{true, ◌&&◌, ◌||◌, not, or-false, or_assoc}
+use mathlib.Core.Bool.{true, false, ◌&&◌, ◌||◌, not, or_assoc}
 use mathlib.Core.List.{List}
 use native.Mathlib.Omega.{arith}
 use native.Mathlib.Numerals.{add-one}
@@ -9,12 +9,12 @@ use native.Mathlib.Decide.{dec_lt}
 use lib.Bits.{bit_or, or_shr}
 use lib.Dec.{eqb, ltb}
 use lib.ListN.{length}
-use borrow.Author.Tests.{lt-ltb, le-ltb, eq-eqb, ne_eqb}
+use borrow.Author.Tests.{lt-ltb, le-ltb, eq-eqb, ne_eqb, eqb-true, not-false}
 use Rattle.rules.specs.Bits.{word_at}
 use Rattle.rules.proofs.BoolLaws.{same}
 use Rattle.words.proofs.Masks.{zero_or}
 use Rattle.journal.specs.Journal.{limit, decode}
-use Rattle.journal.specs.Calls.{is_over, is_unfit}
+use Rattle.journal.specs.Calls.{is_long, is_over, is_unfit}
 use Rattle.journal.proofs.JournalLaws.{held_at_lem, lost_at, reports_at, repeats_at}
 
 -- ---- counts or-ed
@@ -36,26 +36,25 @@ module _ (b : List ℕ) where
   repeats_read i r h e = e ∙ sym (repeats_at b i h)
 
   module _ (n acc : ℕ) where
-    pub none_gathered : ltb limit n ≡ (ltb limit n || is_over 0 (decode b).records)
-    none_gathered = sym (or-false (ltb limit n))
-
     pub one_gathered : (i r : ℕ) → r ≡ ((decode b).records i).repeats → ltb limit acc ≡ (ltb limit n || is_over i (decode b).records)
         → ltb limit (bit_or acc r) ≡ (ltb limit n || is_over (i + 1) (decode b).records)
     one_gathered i r e h = rw (add-one i, or_over acc r, h, e) (or_assoc (ltb limit n) _ _)
 
-    pub all_gathered : (i held : ℕ) → i ≤ held → held ≤ i → ltb limit acc ≡ (ltb limit n || is_over i (decode b).records)
-        → ltb limit acc ≡ (ltb limit n || is_over held (decode b).records)
-    all_gathered i held f g h = let e : i ≡ held = omega arith in rw (← e) h
-
   -- ---- the refusal
-  pub not_long : (length b ≡ 2624 → ⊥) → true ≡ is_unfit b
-  not_long h = rw (ne_eqb (length b) 2624 h)
+  module _ (t : not (is_long b) ≡ false) (held : ℕ) (e : held ≡ word_at b 0) where
+    h : length b ≡ 2624
+    h = eqb-true (length b) 2624 (not-false (is_long b) t)
 
-  module _ (h : length b ≡ 2624) (held : ℕ) (e : held ≡ word_at b 0) where
     pub too_many : 64 < held → true ≡ is_unfit b
     too_many g = rw (eq-eqb (length b) 2624 h, held_at_lem b, ← e, lt-ltb 64 held g)
 
-    pub unfit_is : held ≤ 64 → (l r x : ℕ) → l ≡ word_at b 8 → r ≡ word_at b 16 → ltb limit x ≡ (ltb limit (bit_or l r) || is_over held (decode b).records)
-        → ltb limit x ≡ is_unfit b
-    unfit_is g l r x p q s =
-        rw (eq-eqb (length b) 2624 h, held_at_lem b, lost_at b, reports_at b, ← e, ← p, ← q, le-ltb 64 held g) (s ∙ rw (or_over l r))
+    module _ (g : held ≤ 64) (l r x : ℕ) (p : l ≡ word_at b 8) (q : r ≡ word_at b 16)
+        (s : ltb limit x ≡ (ltb limit (bit_or l r) || is_over held (decode b).records)) where
+      unfit_is : ltb limit x ≡ is_unfit b
+      unfit_is = rw (eq-eqb (length b) 2624 h, held_at_lem b, lost_at b, reports_at b, ← e, ← p, ← q, le-ltb 64 held g) (s ∙ rw (or_over l r))
+
+      pub one_over : limit < x → true ≡ is_unfit b
+      one_over k = sym (lt-ltb limit x k) ∙ unfit_is
+
+      pub none_over : x ≤ limit → false ≡ is_unfit b
+      none_over k = sym (le-ltb limit x k) ∙ unfit_is

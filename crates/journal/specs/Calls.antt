@@ -1,7 +1,8 @@
 -- The two calls on the host's bytes: what each returns and leaves, for all inputs, refused ones too.
-use Rattle.std.specs.Prelude.{ℕ, zero, suc, ◌≡◌, Bool, false, cond, ◌||◌, not, List, length, replicate, ltb, eqb}
+use Rattle.std.specs.Prelude.{ℕ, zero, suc, ◌≡◌, Bool, false, cond, ◌||◌, not, List, length, replicate, ltb, eqb, Result, Ok, Err}
 use Rattle.journal.specs.Journal.{fault_of, limit, Record, encode, decode}
 use Rattle.journal.specs.Step.{report}
+use Rattle.journal.specs.declared.Unfit.{Unfit}
 
 -- the number returned, and the journal's bytes
 pub record Left : Type 0 where
@@ -38,6 +39,11 @@ reported address code root b =
     cond (is_unfit b) (refused b) (record { number = 0; journal = encode (report (fault_of address code root) (decode b)) })
 
 -- ---- what the functions promise
+-- the number of what is returned: that of the refusal, or 0
+abbrev pub number_of : Result (Unit {0}) Unfit → ℕ
+number_of (Ok _) = 0
+number_of (Err _) = 9
+
 pub record Clears (b b' : List ℕ) (n : ℕ) : Type 0 where
   pub left : ◌≡◌ {A = Left} (record { number = n; journal = b' }) (cleared b)
 

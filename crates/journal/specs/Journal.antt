@@ -1,12 +1,8 @@
 -- The fault journal of request W-202: as a record of named parts, and as the 2,624 bytes that the host keeps.
 use Rattle.std.specs.Prelude.{ℕ, zero, suc, ◌+◌, ◌-◌, ◌*◌, ◌^◌, ◌≤◌, ◌≡◌, Bool, ◌&&◌, List, [], ◌∷◌, ◌++◌, eqb, length, get_or}
 use Rattle.rules.specs.Bits.{field, AreWords, words_of, bytes_of_all}
-
 -- a fault, by what makes two reports of it equal: the number of the page, the fault's code, the root of the tables
-pub record Fault : Type 0 where
-  pub page : ℕ
-  pub code : ℕ
-  pub root : ℕ
+pub use Rattle.journal.specs.declared.Fault.{Fault}
 
 -- as it is reported: the page's number is bits 56 to 12 of the address; code and root are taken as they are given
 abbrev pub fault_of : ℕ → ℕ → ℕ → Fault

@@ -1,5 +1,5 @@
 -- What the functions below the two calls ask and promise.
-use Rattle.std.specs.Prelude.{ℕ, ◌≤◌, ◌<◌, ◌≡◌, true, false, List}
+use Rattle.std.specs.Prelude.{ℕ, ◌≤◌, ◌<◌, ◌≡◌, true, false, List, Option, Some, None}
 use Rattle.journal.specs.Journal.{Fault, is_same, Journal, decode, IsJournal}
 
 -- a journal that can be reported to
@@ -7,7 +7,17 @@ pub record Fit (b : List ℕ) : Type 0 where
   pub journal : IsJournal b
   pub room : (decode b).held ≤ 64
 
--- a place before which no record is of this fault; if it is that of a held record, this one is
-pub record Finds (f : Fault) (j : Journal) (n : ℕ) : Type 0 where
+-- record n is the first held one of this fault
+pub record IsFirst (f : Fault) (j : Journal) (n : ℕ) : Type 0 where
+  pub held : n < j.held
   pub passed : (k : ℕ) → k < n → is_same (j.records k).fault f ≡ false
-  pub there : n < j.held → is_same (j.records n).fault f ≡ true
+  pub there : is_same (j.records n).fault f ≡ true
+
+-- no held record is of this fault
+pub record IsNew (f : Fault) (j : Journal) : Type 0 where
+  pub passed : (k : ℕ) → k < j.held → is_same (j.records k).fault f ≡ false
+
+-- what looking for a fault finds
+abbrev pub Finds : Fault → Journal → Option ℕ → Type 0
+Finds f j (Some n) = IsFirst f j n
+Finds f j None = IsNew f j

@@ -1,3 +1,3 @@
-pub mod Doing
 pub mod Answering
 pub mod Unique
+pub mod Doing

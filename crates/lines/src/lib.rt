@@ -2,19 +2,16 @@
 #![tactic(auto)]
 
 ghost use Rattle.std.specs.Prelude.{◌≡◌, length};
-ghost use Rattle.trace.specs.Does.{does, is_place};
+ghost use Rattle.records.specs.Record.{Holds};
+ghost use Rattle.trace.specs.Does.{does, is_place, line_does};
 ghost use Rattle.lines.specs.Line.{Gives, Stores, Lines};
 
-use trace::Order;
+use records::{DONE, Record};
+use trace::{BAD, Order};
 use translator::calls;
 
 // A line is done only where there is this much room: more than any has that is printed.
 pub const ROOM: usize = 80;
-
-// The kinds of answer of a store, and of a bad line, which no call gives.
-const DONE: u64 = 3;
-
-const BAD: u64 = 4;
 
 // Whether a word of the guest's can stand at an address.
 fn is_place(mem: &[u8], a: u64) -> bool
@@ -26,6 +23,18 @@ fn is_place(mem: &[u8], a: u64) -> bool
     (a % 8 == 0) & (a <= (mem.len() - 8) as u64)
 }
 
+// An answer of a kind that has no numbers.
+fn put_kind(answer: &mut [u8], kind: u64)
+    requires { length answer.old ≡ 32 }
+    ensures { Holds (record { kind = kind; value = 0; size = 0; read = 0 }) answer.new }
+{
+    let record = Record {
+        kind,
+        ..Record::default()
+    };
+    record.write(answer);
+}
+
 // A word is stored, or the line is bad.
 fn store(mem: &mut [u8], answer: &mut [u8], a: u64, word: u64)
     requires { length answer.old ≡ 32 }
@@ -33,16 +42,16 @@ fn store(mem: &mut [u8], answer: &mut [u8], a: u64, word: u64)
 {
     if is_place(mem, a) {
         words::write_word(mem, a as usize, word);
-        records::put(answer, DONE, 0, 0, 0);
+        put_kind(answer, DONE);
         return;
     }
-    records::put(answer, BAD, 0, 0, 0);
+    put_kind(answer, BAD);
 }
 
 // What is asked for is done, and answered in a record.
 fn perform(order: Order, image: &mut [u8], mem: &mut [u8], answer: &mut [u8])
     requires { length answer.old ≡ 32 }
-    ensures { Gives (does order image.old mem.old) answer.new image.new mem.new }
+    ensures { Gives (does (Some order) image.old mem.old) answer.new image.new mem.new }
 {
     match order {
         Order::Start { width } => {
@@ -68,10 +77,20 @@ fn perform(order: Order, image: &mut [u8], mem: &mut [u8], answer: &mut [u8])
         Order::Translate { kind, address } => {
             // The guest has no RAM above the hole.
             let mut high = [0u8; 0];
-            direct::translate_into(image, mem, &mut high, kind, address, 0, answer);
+            let _ = direct::translate_into(image, mem, &mut high, kind, address, 0, answer);
         }
         Order::Put { address, word } => store(mem, answer, address, word),
-        Order::Bad => records::put(answer, BAD, 0, 0, 0),
+    }
+}
+
+// What a line asks for, if it is good.
+fn perform_line(text: &[u8], image: &mut [u8], mem: &mut [u8], answer: &mut [u8])
+    requires { length answer.old ≡ 32 }
+    ensures { Gives (line_does text.now image.old mem.old) answer.new image.new mem.new }
+{
+    match reading::order(text) {
+        Some(order) => perform(order, image, mem, answer),
+        None => put_kind(answer, BAD),
     }
 }
 
@@ -90,10 +109,6 @@ pub fn line(
     if out.len() < ROOM {
         return 0;
     }
-    perform(reading::order(text), image, mem, answer);
-    let kind = words::read_word(answer, 0);
-    let value = words::read_word(answer, 8);
-    let size = words::read_word(answer, 16);
-    let read = words::read_word(answer, 24);
-    printing::put_line(out, 0, number, kind, value, size, read)
+    perform_line(text, image, mem, answer);
+    printing::put_line(out, 0, number, Record::read_from(answer))
 }

@@ -22,6 +22,7 @@ use Rattle.rules.proofs.Grown.{call_grows}
 use Rattle.rules.proofs.FitLaws.{fit_stays, flags_stay, memory_stays}
 use Rattle.rules.proofs.ManyLaws.{one_pair, record_long}
 use Rattle.refusals.specs.Asked.{Asked}
+use Rattle.refusals.specs.declared.asked.Asked.{Asked as AskedOf}
 use Rattle.direct.specs.Contract.{IntoRecord}
 use Rattle.many.specs.Contract.{TranslatesMany}
 
@@ -33,11 +34,11 @@ pub by_answers : (ps rs : List ℕ) → (not (eqb (length ps % 16) 0) || ltb 64 
     → not (eqb (length rs) (length ps / 16 * 32)) ≡ no_pairs ps rs
 by_answers ps rs t = rw t
 
-pub none_taken : (ps rs b : List ℕ) (mem : Memory) (x : Bool) → x ≡ no_pairs ps rs → x ≡ true → TranslatesMany ps rs rs b b mem mem 10
-none_taken ps rs b mem x e t = record { left = rw (← e, t) }
+pub none_taken : (ps rs b : List ℕ) (mem : Memory) (x : Bool) (n : ℕ) → x ≡ no_pairs ps rs → x ≡ true → n ≡ 10 → TranslatesMany ps rs rs b b mem mem n
+none_taken ps rs b mem x n e t h = subst (TranslatesMany ps rs rs b b mem mem) (sym h) (record { left = rw (← e, t) })
 
 -- ---- of n pairs i are done
-pub record Done (ps rs₀ b₀ : List ℕ) (mem₀ : Memory) (u x p : Bool) (n : ℕ) (rs b : List ℕ) (mem : Memory) (i : ℕ) : Type 0 where
+pub record Done (ps rs₀ b₀ : List ℕ) (mem₀ : Memory) (x : AskedOf) (n : ℕ) (rs b : List ℕ) (mem : Memory) (i : ℕ) : Type 0 where
   pub few : n ≤ 64
   pub high : i ≤ n
   pub size : length rs ≡ n * 32
@@ -45,7 +46,7 @@ pub record Done (ps rs₀ b₀ : List ℕ) (mem₀ : Memory) (u x p : Bool) (n :
   pub same_image : length b ≡ length b₀
   pub same_memory : SameLengths mem mem₀
   pub bytes : AreBytes b
-  pub asked : Asked b mem u x p
+  pub asked : Asked b mem x
   pub left : before (take (i * 32) rs) (made (pairs_from (n - i) i ps) b mem) ≡ made (pairs_from n 0 ps) b₀ mem₀
 
 taken_size : (ps rs : List ℕ) → no_pairs ps rs ≡ false → length rs ≡ length ps / 16 * 32
@@ -56,9 +57,9 @@ taken_few ps rs h =
     ltb-false 64 (length ps / 16)
     (or_right (not (eqb (length ps % 16) 0)) _ (or_left (not (eqb (length ps % 16) 0) || ltb 64 (length ps / 16)) (not (eqb (length rs) (length ps / 16 * 32))) h))
 
-pub done_none : (ps rs b : List ℕ) (mem : Memory) (u x y p : Bool) (n : ℕ) → y ≡ no_pairs ps rs → y ≡ false → n ≡ length ps / 16 → Asked b mem u x p → AreBytes b
-    → Done ps rs b mem u x p n rs b mem 0
-done_none ps rs b mem u x y p n e t g asked bytes =
+pub done_none : (ps rs b : List ℕ) (mem : Memory) (x : AskedOf) (y : Bool) (n : ℕ) → y ≡ no_pairs ps rs → y ≡ false → n ≡ length ps / 16 → Asked b mem x → AreBytes b
+    → Done ps rs b mem x n rs b mem 0
+done_none ps rs b mem x y n e t g asked bytes =
     record {
       few = omega (arith, taken_few ps rs (sym e ∙ t));
       high = omega arith;
@@ -72,9 +73,9 @@ done_none ps rs b mem u x y p n e t g asked bytes =
     }
 
 -- what was asked at first holds after a pair
-asked_still : (b : List ℕ) (mem : Memory) (u x p : Bool) (k a ac : ℕ) → AreBytes b → Asked b mem u x p
-    → Asked (call b mem (translate k a ac)).image (call b mem (translate k a ac)).memory u x p
-asked_still b mem u x p k a ac bytes h =
+asked_still : (b : List ℕ) (mem : Memory) (x : AskedOf) (k a ac : ℕ) → AreBytes b → Asked b mem x
+    → Asked (call b mem (translate k a ac)).image (call b mem (translate k a ac)).memory x
+asked_still b mem x k a ac bytes h =
     record {
       image = h.image ∙ sym (fit_stays b mem k a ac bytes);
       memory = h.memory ∙ sym (memory_stays b mem k a ac);
@@ -89,10 +90,10 @@ front i a b c h l =
 in_order : (r r' : List ℕ) (m : Made) → before (r ++ r') m ≡ before r (before r' m)
 in_order r r' m = ap (λ (y : List ℕ). record { records = y; image = m.image; memory = m.memory }) (append_assoc r r' m.records)
 
-module _ (ps rs₀ b₀ : List ℕ) (mem₀ : Memory) (u x p : Bool) (n : ℕ) (rs b : List ℕ) (mem : Memory) (i : ℕ) (d : Done ps rs₀ b₀ mem₀ u x p n rs b mem i) where
+module _ (ps rs₀ b₀ : List ℕ) (mem₀ : Memory) (x : AskedOf) (n : ℕ) (rs b : List ℕ) (mem : Memory) (i : ℕ) (d : Done ps rs₀ b₀ mem₀ x n rs b mem i) where
   pub done_more : (k a : ℕ) (r b' : List ℕ) (mem' : Memory) (m : ℕ) → i < n → k ≡ word_at ps (i * 16) → a ≡ word_at ps (i * 16 + 8)
       → IntoRecord (translate k a 0) r b b' mem mem' m → length b' ≡ length b → AreBytes b'
-      → Done ps rs₀ b₀ mem₀ u x p n (take (i * 32) rs ++ (r ++ drop (i * 32 + 32 - i * 32) (drop (i * 32) rs))) b' mem' (i + 1)
+      → Done ps rs₀ b₀ mem₀ x n (take (i * 32) rs ++ (r ++ drop (i * 32 + 32 - i * 32) (drop (i * 32) rs))) b' mem' (i + 1)
   done_more k a r b' mem' m h hk ha w long bytes =
       let q : ◌≡◌ {A = Left} (record { number = m; answer = r; image = b'; memory = mem' }) (written (call b mem (asks (pair_at ps i)))) =
       w.left ∙ ap₂ (λ (y z : ℕ). written (call b mem (translate y z 0))) hk ha in
@@ -113,7 +114,7 @@ module _ (ps rs₀ b₀ : List ℕ) (mem₀ : Memory) (u x p : Bool) (n : ℕ) (
         same_image = long ∙ d.same_image;
         same_memory = record { low = sym lengths.low ∙ d.same_memory.low; high = sym lengths.high ∙ d.same_memory.high };
         bytes = bytes;
-        asked = subst (λ (y : List ℕ). Asked y mem' u x p) (sym image) (subst (λ (z : Memory). Asked (call b mem (asks (pair_at ps i))).image z u x p) (sym memory) (asked_still b mem u x p (pair_at ps i).kind (pair_at ps i).address 0 d.bytes d.asked));
+        asked = subst (λ (y : List ℕ). Asked y mem' x) (sym image) (subst (λ (z : Memory). Asked (call b mem (asks (pair_at ps i))).image z x) (sym memory) (asked_still b mem x (pair_at ps i).kind (pair_at ps i).address 0 d.bytes d.asked));
         left =
             ap (λ (y : List ℕ). before y rest) (front i rs r _ fits full)
             ∙ in_order (take (i * 32) rs) r rest

@@ -4,9 +4,6 @@
 ghost use Rattle.std.specs.Prelude.{◌≡◌};
 ghost use Rattle.rules.specs.Memory.{both, entry_in, page_of};
 
-// What is returned where there is no page.
-const NONE: u64 = 0xFFFF_FFFF_FFFF_FFFF;
-
 // The first word of the page that holds a physical address; all ones where there is none.
 #[unsafe(no_mangle)]
 pub extern "C" fn page_word<'a>(low: &'a [u8], high: &'a [u8], physical: u64) -> u64
@@ -14,7 +11,7 @@ pub extern "C" fn page_word<'a>(low: &'a [u8], high: &'a [u8], physical: u64) ->
 {
     let page = pages::page_of(low, high, physical);
     if page.len() < 8 {
-        return NONE;
+        return u64::MAX;
     }
     words::read_word(page, 0)
 }

@@ -21,60 +21,33 @@ use Rattle.rules.proofs.SizeLaws.{size_of_lem, length_in}
 use Rattle.rules.proofs.SlotLaws.{nothing_dropped}
 use Rattle.rules.proofs.PlaceLaws.{flags_at, datum_at}
 use Rattle.buffer.specs.declared.look.Place.{Place}
-use Rattle.buffer.specs.declared.look.Place.TheVariants.{At, Nowhere}
-use Rattle.buffer.specs.Look.{hit_of, Right, Looks}
+use Rattle.std.specs.Prelude.{Option, None}
+use Rattle.buffer.specs.Look.{place, hit_of, Right, Looks}
 use Rattle.drops.specs.Drops.{dropped_in}
 use Rattle.drops.proofs.DropLaws.{image_dropped, says_dropped}
 use Rattle.numbers.specs.Needs.{IsPcid, ForEach, Known}
 use Rattle.paging.specs.declared.Held.{Held}
-use Rattle.paging.specs.declared.Held.TheVariants.{Page, Nothing}
-use Rattle.paging.specs.Paged.{Usable, Finds, missed}
+use Rattle.paging.specs.Paged.{held_page, Usable, Finds, missed}
 
 -- ---- a slot's place, and the length of its page
-module _ (at l : ℕ) (right : Right (At at l)) where
-  pub datum_fits : 40 + at < 2 ^ 64
-  datum_fits = omega (arith, right.1.0)
-
-  pub datum_in : (b : List ℕ) → length b ≡ 2048 → 40 + at + 8 ≤ length b
-  datum_in b h = omega (arith, right.0, right.1.0)
-
+module _ (at l : ℕ) (right : Right (place at l)) where
   found_length : (1 ≤ l) × (l ≤ 2 ^ 30)
   found_length = rw right.1.1 (length_in (size_of (at / 16)) (size_of_lem (at / 16)))
 
-  pub length_pos : 1 ≤ l
-  length_pos = found_length.0
-
-  pub length_low : l ≤ 2 ^ 30
-  length_low = found_length.1
-
-looked_right : (b : List ℕ) (a at l : ℕ) (o : Place) → Looks b a o → o ≡ At at l → Right (At at l)
+looked_right : (b : List ℕ) (a at l : ℕ) (o : Option Place) → Looks b a o → o ≡ place at l → Right (place at l)
 looked_right b a at l o looks e = subst Right e looks.right
-
--- the same of the first match
-module _ (b : List ℕ) (a at l : ℕ) (o : Place) (looks : Looks b a o) (e : o ≡ At at l) where
-  pub match_fits : 40 + at < 2 ^ 64
-  match_fits = datum_fits at l (looked_right b a at l o looks e)
-
-  pub match_in : length b ≡ 2048 → 40 + at + 8 ≤ length b
-  match_in = datum_in at l (looked_right b a at l o looks e) b
-
-  pub match_pos : 1 ≤ l
-  match_pos = length_pos at l (looked_right b a at l o looks e)
-
-  pub match_low : l ≤ 2 ^ 30
-  match_low = length_low at l (looked_right b a at l o looks e)
 
 base_is : (z : Size) (d : ℕ) → Is z → d % 2 ^ 52 / z.length * z.length ≡ part 52 (shift z.level) d
 base_is z d is_small = omega arith
 base_is z d is_middle = omega arith
 base_is z d is_large = omega arith
 
-pub slot_datum : (b : List ℕ) (at l d : ℕ) → Right (At at l) → d ≡ word_at b (40 + at) → d ≡ ((decode b).slots (at / 16)).datum
+pub slot_datum : (b : List ℕ) (at l d : ℕ) → Right (place at l) → d ≡ word_at b (40 + at) → d ≡ ((decode b).slots (at / 16)).datum
 slot_datum b at l d right h =
     let q : 40 + at ≡ 40 + at / 16 * 16 = omega (arith, right.0) in
     h ∙ ap (word_at b) q ∙ sym (datum_at b (at / 16) right.1.0)
 
-pub slot_address : (b : List ℕ) (at l d a x : ℕ) → Right (At at l) → d ≡ word_at b (40 + at) → x ≡ d % 2 ^ 52 / l * l + a % l
+pub slot_address : (b : List ℕ) (at l d a x : ℕ) → Right (place at l) → d ≡ word_at b (40 + at) → x ≡ d % 2 ^ 52 / l * l + a % l
     → x ≡ hit_address (size_of (at / 16)) ((decode b).slots (at / 16)).datum a
 slot_address b at l d a x right hd h =
     h ∙ rw (right.1.1, slot_datum b at l d right hd, base_is (size_of (at / 16)) ((decode b).slots (at / 16)).datum (size_of_lem (at / 16)))
@@ -87,14 +60,14 @@ usable_dropped q b b₁ u h =
     record { image = image_dropped q b b₁ u.image h; wide = rw w u.wide; narrow = rw w u.narrow }
 
 -- ---- the first match answers, or goes
-pub first_looked : (b : List ℕ) (mem : Memory) (at l a : ℕ) (k : Access) → Looks b a (At at l)
+pub first_looked : (b : List ℕ) (mem : Memory) (at l a : ℕ) (k : Access) → Looks b a (place at l)
     → looked (decode b) mem k a (find (decode b) a)
     ≡ served_if (serves (control (decode b)) k ((decode b).slots (at / 16)).datum) (decode b) mem k a (at / 16)
 first_looked b mem at l a k looks = ap (looked (decode b) mem k a) (sym looks.first)
 
-module _ (b : List ℕ) (at l n a d w : ℕ) (o : Place) (v : Bool) (looks : Looks b a o) (e : o ≡ At at l) (hd : d ≡ word_at b (40 + at)) (hw : w ≡ word_at b 8)
+module _ (b : List ℕ) (at l n a d w : ℕ) (o : Option Place) (v : Bool) (looks : Looks b a o) (e : o ≡ place at l) (hd : d ≡ word_at b (40 + at)) (hw : w ≡ word_at b 8)
     (hv : (c : Control) → c.flags ≡ w → ForEach c.flags n (λ k. v ≡ serves c k d)) where
-  right : Right (At at l)
+  right : Right (place at l)
   right = looked_right b a at l o looks e
 
   match_looked : (y : Bool) → v ≡ y
@@ -104,12 +77,12 @@ module _ (b : List ℕ) (at l n a d w : ℕ) (o : Place) (v : Bool) (looks : Loo
       ∙ ap (λ (x : Bool). served_if x (decode b) mem k a (at / 16))
       (sym (hv (control (decode b)) (flags_at b ∙ sym hw) k of ∙ ap (serves (control (decode b)) k) (slot_datum b at l d right hd)) ∙ t)
 
-  pub match_serves : v ≡ true → (x : ℕ) → x ≡ d % 2 ^ 52 / l * l + a % l → Finds b b n a (Page x l)
+  pub match_serves : v ≡ true → (x : ℕ) → x ≡ d % 2 ^ 52 / l * l + a % l → Finds b b n a (held_page x l)
   match_serves t x h =
       let m : x ≡ hit_address (size_of (at / 16)) ((decode b).slots (at / 16)).datum a = slot_address b at l d a x right hd h in
       (refl, λ k of mem. match_looked true t k of mem ∙ sym (λ j. record { answer = Address (m j) (right.1.1 j) 0; image = decode b; memory = mem }))
 
-  pub match_goes : v ≡ false → Usable b → (p : ℕ) (b₁ : List ℕ) → IsPcid b p → b₁ ≡ dropped_in (matches p a) b → Finds b b₁ n a Nothing
+  pub match_goes : v ≡ false → Usable b → (p : ℕ) (b₁ : List ℕ) → IsPcid b p → b₁ ≡ dropped_in (matches p a) b → Finds b b₁ n a None
   match_goes t u p b₁ sp h =
       let s : decode b₁ ≡ dropped (matches (pcid (decode b)) a) (decode b) =
       ap decode h ∙ says_dropped (matches p a) b u.image ∙ ap (λ (y : ℕ). dropped (matches y a) (decode b)) sp.current in (
@@ -120,18 +93,18 @@ module _ (b : List ℕ) (at l n a d w : ℕ) (o : Place) (v : Bool) (looks : Loo
       )
 
 -- ---- nothing is held
-pub none_looked : (b : List ℕ) (mem : Memory) (a : ℕ) (k : Access) (o : Place) → Looks b a o → o ≡ Nowhere
+pub none_looked : (b : List ℕ) (mem : Memory) (a : ℕ) (k : Access) (o : Option Place) → Looks b a o → o ≡ None
     → looked (decode b) mem k a (find (decode b) a) ≡ missed (decode b) mem k a
 none_looked b mem a k o looks e =
     let h : find (decode b) a ≡ miss = sym looks.first ∙ ap hit_of e in
     ap (looked (decode b) mem k a) h
     ∙ ap (λ (x : Image). record { answer = answer_of (control (decode b)) k a (walk (control (decode b)) k a mem).found; image = filled x a (walk (control (decode b)) k a mem).found; memory = (walk (control (decode b)) k a mem).memory }) (nothing_dropped (decode b) a h)
 
-pub match_none : (b : List ℕ) (n a : ℕ) (o : Place) → Looks b a o → o ≡ Nowhere → Usable b → Finds b b n a Nothing
+pub match_none : (b : List ℕ) (n a : ℕ) (o : Option Place) → Looks b a o → o ≡ None → Usable b → Finds b b n a None
 match_none b n a o looks e u = (u, refl, λ k of mem. none_looked b mem a k o looks e)
 
 -- ---- where nothing is held, the walk can be made of what is left
-module _ (b b' : List ℕ) (n a : ℕ) (h : Held) (finds : Finds b b' n a h) (e : h ≡ Nothing) where
+module _ (b b' : List ℕ) (n a : ℕ) (h : Option Held) (finds : Finds b b' n a h) (e : h ≡ None) where
   pub still_usable : Usable b'
   still_usable = (subst (Finds b b' n a) e finds).0
 

@@ -1,5 +1,5 @@
 -- An accepted translation with paging on, over the image's bytes: what it is lent, what is held, and what a walk leaves.
-use Rattle.std.specs.Prelude.{ℕ, ◌^◌, ◌≤◌, ◌<◌, ◌≡◌, List}
+use Rattle.std.specs.Prelude.{ℕ, ◌^◌, ◌≤◌, ◌<◌, ◌≡◌, Option, Some, None, List}
 use Rattle.rules.specs.Image.{Image, encode, decode, control, IsImage}
 use Rattle.rules.specs.Memory.{Memory}
 use Rattle.rules.specs.Walk.{walk}
@@ -13,7 +13,6 @@ use Rattle.rules.specs.declared.Answer.{Answer}
 use Rattle.rules.specs.declared.Answer.TheVariants.{Address}
 use Rattle.numbers.specs.Needs.{ForEach}
 use Rattle.paging.specs.declared.Held.{Held}
-use Rattle.paging.specs.declared.Held.TheVariants.{Page as HeldPage, Nothing}
 
 -- ---- what is lent
 -- the bytes of an image, with a width
@@ -48,13 +47,17 @@ missed s mem k a =
       memory = (walk (control s) k a mem).memory;
     }
 
+-- ---- a held page that answers, by its address and length
+abbrev pub held_page : ℕ → ℕ → Option Held
+held_page v l = Some (record { value = v; size = l })
+
 -- ---- what is held, all ways looked at, for whatever access has this number: a page that answers, and nothing changes; or nothing, and what is left is walked for, by the
 -- same flags
-abbrev pub Finds : List ℕ → List ℕ → ℕ → ℕ → Held → Type 0
-Finds b b' n a (HeldPage v l) =
+abbrev pub Finds : List ℕ → List ℕ → ℕ → ℕ → Option Held → Type 0
+Finds b b' n a (Some h) =
     (b' ≡ b)
     × ForEach (decode b).flags n
-    (λ k. (mem : Memory) → looked (decode b) mem k a (find (decode b) a) ≡ record { answer = Address v l 0; image = decode b; memory = mem })
-Finds b b' n a Nothing =
+    (λ k. (mem : Memory) → looked (decode b) mem k a (find (decode b) a) ≡ record { answer = Address h.value h.size 0; image = decode b; memory = mem })
+Finds b b' n a None =
     Usable b' × ((decode b').flags ≡ (decode b).flags)
     × ForEach (decode b).flags n (λ k. (mem : Memory) → looked (decode b) mem k a (find (decode b) a) ≡ missed (decode b') mem k a)

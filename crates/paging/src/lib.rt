@@ -15,15 +15,15 @@ use buffer::look::Place;
 use rules::{Answer, Control, Found, Rights, Size};
 use sets::size;
 
-// What is held for an address: a page that answers, by the physical address and the page's length; or nothing, once what does not answer has gone.
+// A held page that answers: the physical address, and the page's length.
 #[derive(Clone, Copy)]
-pub enum Held {
-    Page(u64, u64),
-    Nothing,
+pub struct Held {
+    pub value: u64,
+    pub size: u64,
 }
 
 // What a walk goes by.
-fn control_of(image: &[u8]) -> Control
+fn control_of(image: &[u8; 2048]) -> Control
     requires { Usable image.now }
     ensures { result ≡ control (decode image.now) }
 {
@@ -37,7 +37,7 @@ fn control_of(image: &[u8]) -> Control
 }
 
 // A page that a walk reached is stored in its set.
-fn keep(image: &mut [u8], z: Size, a: u64, r: Rights, global: bool, dirty: bool, base: u64)
+fn keep(image: &mut [u8; 2048], z: Size, a: u64, r: Rights, global: bool, dirty: bool, base: u64)
     requires { IsImage image.old × (Is z × (base < 2 ^ 52)) }
     ensures { image.new ≡ encode (filled (decode image.old) a (Page base z.level r global dirty 0)) }
 {
@@ -49,7 +49,7 @@ fn keep(image: &mut [u8], z: Size, a: u64, r: Rights, global: bool, dirty: bool,
 }
 
 // What a walk found is answered; a page is kept as well.
-fn finish(image: &mut [u8], flags: u64, access: u64, a: u64, f: Found) -> Answer
+fn finish(image: &mut [u8; 2048], flags: u64, access: u64, a: u64, f: Found) -> Answer
     requires { IsImage image.old × ((flags ≡ (decode image.old).flags) × InRange f) }
     ensures { ForEach (decode image.old).flags access (λ k. Finishes image.old image.new k a f result) }
 {
@@ -81,7 +81,13 @@ fn finish(image: &mut [u8], flags: u64, access: u64, a: u64, f: Found) -> Answer
 }
 
 // The walk is made, and finished.
-pub fn walked(image: &mut [u8], low: &mut [u8], high: &mut [u8], access: u64, a: u64) -> Answer
+pub fn walked(
+    image: &mut [u8; 2048],
+    low: &mut [u8],
+    high: &mut [u8],
+    access: u64,
+    a: u64,
+) -> Answer
     requires { Usable image.old × (Whole (both low.old high.old) × Known (decode image.old).flags access) }
     ensures { ForEach (decode image.old).flags access (λ k. Encodes (missed (decode image.old) (both low.old high.old) k a) image.new (both low.new high.new) result) }
 {
@@ -91,20 +97,21 @@ pub fn walked(image: &mut [u8], low: &mut [u8], high: &mut [u8], access: u64, a:
 }
 
 // All ways are gone through: the first match answers, or what matches goes.
-pub fn find_held(image: &mut [u8], access: u64, a: u64) -> Held
+pub fn find_held(image: &mut [u8; 2048], access: u64, a: u64) -> Option<Held>
     requires { Usable image.old }
     ensures { Finds image.old image.new access a result }
 {
     let pcid = numbers::pcid_of(image);
     match look::look_all(image, a, pcid) {
-        Place::At(at, size) => {
+        Some(Place { at, size }) => {
             let d = words::read_word(image, 40 + at);
             if numbers::serves(words::read_word(image, 8), access, d) {
-                return Held::Page(numbers::hit_address(d, a, size), size);
+                let value = numbers::hit_address(d, a, size);
+                return Some(Held { value, size });
             }
             drops::drop_matches(image, a, pcid);
-            Held::Nothing
+            None
         }
-        Place::Nowhere => Held::Nothing,
+        None => None,
     }
 }

@@ -1,11 +1,11 @@
 -- Digits written from the last to the first.
 use Prim.Native.Nat.{ℕ, zero, suc, ◌+◌, ◌-◌, ◌/◌, ◌%◌, ◌≤◌, ◌<◌}
-use mathlib.Core.Path.{◌≡◌, refl, sym, ◌∙◌}
-use mathlib.Core.List.{List, ◌∷◌, ◌++◌, map, map-append, append-nil}
+use mathlib.Core.Path.{◌≡◌, sym, ◌∙◌}
+use mathlib.Core.List.{List, ◌∷◌, ◌++◌, map, map-append}
 use native.Mathlib.Omega.{arith}
 use native.Mathlib.Nat.{add-suc, add-zero}
 use lib.ListN.{length, take, set, length-map, length-set, length-take, take-append-drop}
-use lib.Seq.{slice, slice_empty, take-take, take-set-le, take-set-lt, drop-set-lt, drop-cons, get_or-set_same, append_snoc}
+use lib.Seq.{slice, take-take, take-set-le, take-set-lt, drop-set-lt, drop-cons, get_or-set_same, append_snoc}
 use Rattle.trace.specs.Numbers.{digits, byte_of}
 use Rattle.printing.specs.Puts.{Puts}
 use Rattle.printing.proofs.Digits.{length_digits, digits_last}
@@ -17,9 +17,6 @@ pub record Written (out₀ out : List ℕ) (at n x i rest : ℕ) : Type 0 where
   pub size : length out ≡ length out₀
   pub before : take at out ≡ take at out₀
   pub left : map byte_of (digits i rest) ++ slice (at + i) (at + n) out ≡ map byte_of (digits n x)
-
-pub written_none : (out : List ℕ) (at n x : ℕ) → at + n ≤ length out → Written out out at n x n x
-written_none out at n x h = record { high = omega arith; fits = h; size = refl; before = refl; left = rw (slice_empty (at + n) out, append-nil) }
 
 -- a byte stored in front of a slice
 slice_more : (out : List ℕ) (f t b : ℕ) → f < t → t ≤ length out → slice f t (set out f b) ≡ b ∷ slice (suc f) t out

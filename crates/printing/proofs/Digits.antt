@@ -1,26 +1,15 @@
 -- A number's digits: by the last of them, and without leading zeros, of which the number of digits is told by the highest bit.
 use Prim.Native.Nat.{ℕ, zero, suc, ◌+◌, ◌-◌, ◌*◌, ◌/◌, ◌%◌, ◌^◌, ◌≤◌, ◌<◌}
 use mathlib.Core.Path.{◌≡◌, refl, ap, ◌∙◌}
-use mathlib.Core.Bool.{Bool, true, false, cond}
 use mathlib.Core.List.{List, [], ◌∷◌, ◌++◌}
 use native.Mathlib.Omega.{arith}
 use native.Mathlib.Nat.{zero-add, suc-add, pow-suc, pow-succ', pow-le-pow_right, one-le-pow}
 use native.Mathlib.Nat.{div-one, div-div-eq-div-mul, div-eq_of_lt, div-lt_iff_lt-mul, le-div_iff_mul-le, mod-eq_of_lt, le_trans, lt_of_lt_of_le}
-use lib.Dec.{ltb}
 use lib.ListN.{length}
 use lib.Pow.{pow-add, pow_mono}
-use lib.Count.{count_leading_zeros, leading_top}
-use borrow.Author.Tests.{ltb-true, ltb-false}
-use Rattle.trace.specs.Numbers.{digits, trimmed, byte_of}
+use native.Mathlib.Numerals.{add-one}
+use Rattle.trace.specs.Numbers.{digits, trimmed}
 use Rattle.printing.specs.Parts.{Counts}
-
--- ---- a digit's byte
-pub byte_sum : (d : ℕ) → d < 16 → 48 + d + (d + 6) / 16 * 39 ≡ byte_of d
-byte_sum d h = go (ltb d 10) refl
-  where
-    go : (b : Bool) → ltb d 10 ≡ b → 48 + d + (d + 6) / 16 * 39 ≡ cond b (48 + d) (87 + d)
-    go true e = omega (arith, ltb-true d 10 e)
-    go false e = omega (arith, ltb-false d 10 e)
 
 -- ---- all digits
 pub length_digits : (n x : ℕ) → length (digits n x) ≡ n
@@ -79,14 +68,11 @@ counted m x f l h =
     record { few = omega arith; same = rw e at (trim_more (15 - m) m x h) ∙ trim_whole m x l h }
 
 -- the highest bit is bit j, and its digit is digit j / 4
-pub count_found : (x : ℕ) → 0 < x → x < 2 ^ 64 → Counts x ((67 - count_leading_zeros 64 x) / 4)
-count_found x h g =
-    let t = leading_top 64 x h g in
-    let j : ℕ = t.0 in
-    let s : count_leading_zeros 64 x + suc j ≡ 64 = t.1 in
-    let e : (67 - count_leading_zeros 64 x) / 4 ≡ suc (j / 4) = omega arith in
-    let l : j / 4 * 4 ≤ j = omega arith in
+pub count_found : (x j : ℕ) → 2 ^ j ≤ x → x < 2 * 2 ^ j → j < 64 → Counts x (j / 4 + 1)
+count_found x j l h b =
+    let k : j / 4 * 4 ≤ j = omega arith in
     let u : suc j ≤ suc (j / 4) * 4 = omega arith in
-    rw e
-    (counted (j / 4) x (omega arith) (rw (sixteens (j / 4)) (le_trans (pow_mono l) t.2))
-    (rw (sixteens (suc (j / 4))) (lt_of_lt_of_le t.3 (pow_mono u))))
+    let g : x < 2 ^ suc j = rw pow-suc (omega arith) in
+    rw (add-one (j / 4))
+    (counted (j / 4) x (omega arith) (rw (sixteens (j / 4)) (le_trans (pow_mono k) l))
+    (rw (sixteens (suc (j / 4))) (lt_of_lt_of_le g (pow_mono u))))

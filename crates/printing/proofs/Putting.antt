@@ -1,16 +1,18 @@
 -- What stands in the room after one part and the next: a word's store, a byte more, and the fields of a line.
-use Prim.Native.Nat.{ℕ, zero, suc, ◌+◌, ◌≤◌, ◌<◌}
-use mathlib.Core.Path.{◌≡◌, refl, sym, ap, ◌∙◌}
+use Prim.Native.Nat.{ℕ, ◌+◌, ◌≤◌, ◌<◌}
+use mathlib.Core.Path.{◌≡◌, sym, ap, ◌∙◌}
 use mathlib.Core.List.{List, [], ◌∷◌, ◌++◌, map, append_assoc, append-nil}
 use native.Mathlib.Omega.{arith}
 use native.Mathlib.Numerals.{add-one}
-use lib.ListN.{length, take, drop, set, length-append, length-set, length-take}
-use lib.Seq.{length-take-le, take-append-add, take-append-le, take-suc-set, append_snoc}
-use Rattle.rules.specs.Bits.{bytes_of, word_put}
+use lib.ListN.{length, take, set, length-append, length-set, length-take}
+use lib.Seq.{length-take-le, take-take, take-append-add, take-suc-set, append_snoc}
 use Rattle.trace.specs.Text.{tab}
 use Rattle.trace.specs.Numbers.{digits, byte_of, hex_of}
-use Rattle.trace.specs.Printed.{joined, word_for}
+use Rattle.trace.specs.Printed.{joined}
 use Rattle.printing.specs.Puts.{Puts}
+use Rattle.printing.specs.declared.Word.{Word}
+use borrow.Rule.Slice.PartMut.{put_mid}
+use Rattle.std.proofs.lemmas.Slice.{take-put_mid}
 use Rattle.printing.specs.Parts.{Counts, Holds}
 use Rattle.printing.proofs.Digits.{trim_one}
 
@@ -45,29 +47,21 @@ digit_puts o at x d b s e h =
     rw (trim_one x s, ← e, ← two)
     (byte_puts o (set o at d) at (at + 1) b (d ∷ []) (byte_puts o o at at d [] none (omega arith)) (simp length-set (omega arith)))
 
--- ---- a text of which eight bytes are stored
-pub text_puts : (o p : List ℕ) (at x n : ℕ) (bytes : List ℕ) → Holds bytes x n → at + 8 ≤ length o → p ≡ word_put o at x → Puts o p at bytes (at + n)
-text_puts o p at x n bytes w h q =
+-- ---- a word of which eight bytes are stored
+pub text_puts : (o text : List ℕ) (at k n : ℕ) → n ≤ k → length text ≡ k → at + k ≤ length o → Puts o (put_mid at k o text) at (take n text) (at + n)
+text_puts o text at k n f l h =
     let e : length (take at o) ≡ at = length-take-le at o (omega arith) in
+    let whole : take (at + k) (put_mid at k o text) ≡ take at o ++ text = take-put_mid at k o text (at + k) (omega (arith, l)) (omega arith) in
     record {
-      place = ap (λ (k : ℕ). at + k) (sym (length-take-le n (bytes_of 8 x) w.few) ∙ ap length w.text);
+      place = ap (λ (m : ℕ). at + m) (sym (length-take-le n text (omega (arith, l))));
       text =
-          rw q
-          (rw e at (take-append-add (take at o) (bytes_of 8 x ++ drop (at + 8) o) n)
-          ∙ rw (take-append-le n (bytes_of 8 x) (drop (at + 8) o) w.few, w.text));
+          sym (take-take (at + n) (at + k) (put_mid at k o text) (omega arith))
+          ∙ ap (take (at + n)) whole
+          ∙ rw e at (take-append-add (take at o) text n);
     }
 
--- the word for a kind
-pub holds_of : (kind k x n : ℕ) → kind ≡ k → n ≤ 8 → take n (bytes_of 8 x) ≡ word_for k ++ (tab ∷ []) → Holds (word_for kind ++ (tab ∷ [])) x n
-holds_of kind k x n e f t = record { few = f; text = rw e t }
-
-pub holds_rest : (kind x n : ℕ) → (kind ≡ 0 → ⊥) → (kind ≡ 1 → ⊥) → (kind ≡ 2 → ⊥) → (kind ≡ 3 → ⊥) → n ≤ 8
-    → take n (bytes_of 8 x) ≡ word_for 4 ++ (tab ∷ []) → Holds (word_for kind ++ (tab ∷ [])) x n
-holds_rest zero x n a b c d f t = absurd (a refl)
-holds_rest (suc zero) x n a b c d f t = absurd (b refl)
-holds_rest (suc (suc zero)) x n a b c d f t = absurd (c refl)
-holds_rest (suc (suc (suc zero))) x n a b c d f t = absurd (d refl)
-holds_rest (suc (suc (suc (suc k)))) x n a b c d f t = record { few = f; text = t }
+pub word_puts : (o p : List ℕ) (at r : ℕ) (bytes : List ℕ) (w : Word) → Holds bytes w → Puts o p at (take w.length w.text) r → Puts o p at bytes r
+word_puts o p at r bytes w h a = rw h.text at a
 
 -- ---- fields: one and its tab, and the others to the line's end
 joined_more : (o p q : List ℕ) (at r s : ℕ) (f g : List ℕ) (gs : List (List ℕ)) → Puts o p at (f ++ (tab ∷ [])) r → Puts p q r (joined g gs) s

@@ -6,9 +6,11 @@ use mathlib.Core.Bool.{Bool, true, false, ◌&&◌, ◌||◌, true≢false, or-t
 use native.Mathlib.Omega.{arith}
 use native.Mathlib.Decide.{dec_lt}
 use lib.Dec.{leb}
-use borrow.Author.Tests.{le-leb, leb-true}
+use borrow.Author.Tests.{le-leb, leb-true, lt-ltb}
 use Rattle.rules.proofs.BoolLaws.{and_left, and_right, refuted}
 use Rattle.trace.specs.Numbers.{digit_of}
+use Rattle.reading.specs.Fields.{digit_in}
+use Rattle.std.specs.Prelude.{Some, None}
 
 abbrev is_in : ℕ → ℕ → ℕ → Bool
 is_in a z x = leb a x && leb x z
@@ -50,17 +52,16 @@ module _ (b : ℕ) where
       high : (97 ≤ b) × (b ≤ 102) → ⊥
       high r = no (omega arith) (omega arith)
 
-  pub decimal_low : is_in 48 57 b ≡ true → 48 ≤ b
-  decimal_low h = (in_range 48 57 b h).0
+  digit_is : (d : ℕ) → d ≡ digit_of b → d < 16 → Some d ≡ digit_in b
+  digit_is d e l = rw (← e, lt-ltb d 16 l)
 
-  pub digit_decimal : is_in 48 57 b ≡ true → b - 48 ≡ digit_of b
-  digit_decimal h = let r : (48 ≤ b) × (b ≤ 57) = in_range 48 57 b h in rw h (omega arith)
+  pub digit_decimal : is_in 48 57 b ≡ true → Some (b - 48) ≡ digit_in b
+  digit_decimal h = let r : (48 ≤ b) × (b ≤ 57) = in_range 48 57 b h in digit_is (b - 48) (rw h (omega arith)) (omega arith)
 
-  pub letter_low : is_in 65 70 (upper b) ≡ true → 55 ≤ upper b
-  letter_low h = let r : (65 ≤ upper b) × (upper b ≤ 70) = in_range 65 70 (upper b) h in omega arith
+  pub digit_letter : is_in 48 57 b ≡ false → is_in 65 70 (upper b) ≡ true → Some (upper b - 55) ≡ digit_in b
+  digit_letter n h =
+      let r : (65 ≤ upper b) × (upper b ≤ 70) = in_range 65 70 (upper b) h in
+      digit_is (upper b - 55) (rw (n, letter_in r) (omega arith)) (omega arith)
 
-  pub digit_letter : is_in 48 57 b ≡ false → is_in 65 70 (upper b) ≡ true → upper b - 55 ≡ digit_of b
-  digit_letter n h = let r : (65 ≤ upper b) × (upper b ≤ 70) = in_range 65 70 (upper b) h in rw (n, letter_in r) (omega arith)
-
-  pub digit_none : is_in 48 57 b ≡ false → is_in 65 70 (upper b) ≡ false → 16 ≡ digit_of b
+  pub digit_none : is_in 48 57 b ≡ false → is_in 65 70 (upper b) ≡ false → None ≡ digit_in b
   digit_none n h = rw (n, letter_out h)

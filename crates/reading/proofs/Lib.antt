@@ -1,5 +1,5 @@
 pub mod Parts
 pub mod Ending
-pub mod Digits
 pub mod Scan
 pub mod Ordering
+pub mod Digits

@@ -1,11 +1,8 @@
 -- The parts of a text by index: where one ends, and of a line's field which number it is.
-use Rattle.std.specs.Prelude.{ℕ, suc, ◌+◌, cond, ◌&&◌, List, [], ◌∷◌, leb, ltb, eqb, take, drop}
+use Rattle.std.specs.Prelude.{ℕ, suc, Option, Some, None, ◌+◌, cond, ◌&&◌, List, [], ◌∷◌, leb, ltb, eqb, take, drop}
 use Rattle.trace.specs.Text.{tab}
-use Rattle.trace.specs.Numbers.{number_of}
-use Rattle.trace.specs.declared.Number.{Number}
-use Rattle.trace.specs.declared.Number.TheVariants.{Of, Bad as NoNumber}
-use Rattle.reading.specs.declared.Found.{Found}
-use Rattle.reading.specs.declared.Found.TheVariants.{Number as Finds, Bad}
+use Rattle.trace.specs.Numbers.{digit_of, number_of}
+use Rattle.reading.specs.declared.Number.{Number}
 
 -- how many bytes stand before the first separator, or the end
 unfoldable pub width : ℕ → List ℕ → ℕ
@@ -25,13 +22,17 @@ abbrev pub next_at : ℕ → List ℕ → ℕ → ℕ
 next_at s t from = end_at s t from + 1
 
 -- ---- fields
-abbrev pub found : Number → ℕ → Found
-found (Of n) next = Finds n next
-found NoNumber next = Bad
+-- a byte's digit, if it is one
+abbrev pub digit_in : ℕ → Option ℕ
+digit_in b = cond (ltb (digit_of b) 16) (Some (digit_of b)) None
 
-abbrev pub field_at : List ℕ → ℕ → Found
+abbrev pub found : Option ℕ → ℕ → Option Number
+found (Some n) next = Some (record { value = n; next = next })
+found None next = None
+
+abbrev pub field_at : List ℕ → ℕ → Option Number
 field_at line from = found (number_of (part_at tab line from)) (next_at tab line from)
 
 -- so many digits, which make a value
-abbrev pub ended : ℕ → ℕ → ℕ → Found
-ended value n next = cond (ltb 0 n && leb n 16) (Finds value next) Bad
+abbrev pub ended : ℕ → ℕ → ℕ → Option Number
+ended value n next = cond (ltb 0 n && leb n 16) (Some (record { value = value; next = next })) None

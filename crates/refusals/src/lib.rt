@@ -1,12 +1,17 @@
-// Which calls are refused: the lowest number that applies to a call, or 0.
+// Which calls are refused, and why: the lowest refusal that applies to a call, or none.
 #![tactic(auto)]
 
-ghost use Rattle.std.specs.Prelude.{◌≡◌, ℕ, ◌≤◌, false, cond, List, length, ltb};
-ghost use Rattle.rules.specs.Image.{Image, decode, pg};
-ghost use Rattle.rules.specs.Memory.{Memory, both, empty, no_lengths};
-ghost use Rattle.rules.specs.Refusals.{start_with, translate, invlpg, invpcid, write_cr3, write_mode, canonical, is_outside, no_flags, is_unfit, no_address, no_cr3, no_mode, no_invpcid, refusal};
+ghost use Rattle.std.specs.Prelude.{◌≡◌, ℕ, ◌≤◌, cond, IfOk};
+ghost use Rattle.rules.specs.Image.{Image, decode};
+ghost use Rattle.rules.specs.Memory.{both, empty, no_lengths};
+ghost use Rattle.rules.specs.Refusals.{start_with, invlpg, invpcid, write_cr3, write_mode, canonical, is_outside, no_flags, is_unfit, no_cr3, no_mode, no_invpcid, refusal};
 ghost use Rattle.rules.specs.declared.Control.{Control};
-ghost use Rattle.refusals.specs.Asked.{Asked};
+ghost use Rattle.refusals.specs.Refusal.{number_of, told};
+
+use crate::refusal::Refusal;
+
+pub mod asked; // asked.rt: translate's refusals, and what they ask for every address alike
+pub mod refusal; // refusal.rt: the refusals and their numbers
 
 fn is_outside(width: u64) -> bool
     ensures { result ≡ is_outside width }
@@ -43,29 +48,13 @@ pub fn is_canonical(a: u64) -> bool
     (a / 0x8000_0000_0000 + 1) / 2 % 0x1_0000 == 0
 }
 
-// The address's own refusal, or 0.
-fn address_refusal(paged: bool, a: u64) -> u64
-    ensures { (b : List ℕ) → paged ≡ pg (decode b).flags → result ≡ cond (no_address (decode b) a) 5 0 }
-{
-    if paged {
-        if is_canonical(a) {
-            return 0;
-        }
-        return 5;
-    }
-    if 0x1_0000_0000 <= a {
-        return 5;
-    }
-    0
-}
-
-fn no_cr3(image: &[u8], value: u64) -> bool
-    requires { (length image.now ≡ 2048) × ((decode image.now).width ≤ 52) }
+fn no_cr3(image: &[u8; 2048], value: u64) -> bool
+    requires { (decode image.now).width ≤ 52 }
     ensures { result ≡ no_cr3 (decode image.now) value }
 {
     let beyond = words::part(63, words::read_word(image, 0), value);
     let pcide = words::is_on(3, words::read_word(image, 8));
-    !(beyond == 0) | (words::is_on(63, value) & !pcide)
+    (beyond != 0) | (words::is_on(63, value) & !pcide)
 }
 
 // From these flags and this CR3.
@@ -75,38 +64,24 @@ fn no_mode(flags: u64, cr3: u64, value: u64) -> bool
     let pcide = words::is_on(3, flags);
     let named = cr3 % 4096;
     let wanted = words::is_on(3, value);
-    no_flags(value) | (wanted & !words::is_on(0, value)) | (wanted & !pcide & !(named == 0))
+    no_flags(value) | (wanted & !words::is_on(0, value)) | (wanted & !pcide & (named != 0))
 }
 
 // Only the first two types ask whether PCIDs are on, and only the first asks for the address.
-fn no_invpcid(image: &[u8], kind: u64, pcid: u64, a: u64) -> bool
-    requires { length image.now ≡ 2048 }
+fn no_invpcid(image: &[u8; 2048], kind: u64, pcid: u64, a: u64) -> bool
     ensures { result ≡ no_invpcid (decode image.now) kind pcid a }
 {
-    if (3 < kind) | (4095 < pcid) {
+    if 4095 < pcid {
         return true;
     }
-    if 1 < kind {
-        return false;
-    }
     let pcide = words::is_on(3, words::read_word(image, 8));
-    ((kind == 0) & !is_canonical(a)) | (!pcide & !(pcid == 0))
-}
-
-// The flags are judged as those of a mode write, from flags 0 and CR3 0: what the image held is not read.
-pub fn start_refusal(image: &[u8], width: u64, flags: u64) -> u64
-    ensures { result ≡ refusal image.now empty (start_with width flags) }
-{
-    if image.len() != 2048 {
-        return 2;
+    let strays = !pcide & (pcid != 0);
+    match kind {
+        0 => !is_canonical(a) | strays,
+        1 => strays,
+        2 | 3 => false,
+        _ => true,
     }
-    if is_outside(width) {
-        return 2;
-    }
-    if no_mode(0, 0, flags) {
-        return 7;
-    }
-    0
 }
 
 // Bytes that fill no page, in either part of guest memory, or too many of them in low.
@@ -116,83 +91,58 @@ pub fn no_lengths(low: &[u8], high: &[u8]) -> bool
     (low.len() % 4096 != 0) | (high.len() % 4096 != 0) | (0xB000_0000 < low.len())
 }
 
-// Whether paging is on, of an image that is fit.
-pub fn is_paged(image: &[u8], unfit: bool) -> bool
-    requires { unfit ≡ is_unfit image.now }
-    ensures { unfit ≡ false → result ≡ pg (decode image.now).flags }
+// A refusal, where it applies.
+fn refuse_if(applies: bool, refusal: Refusal) -> Result<(), Refusal>
+    ensures { told result ≡ cond applies (number_of refusal) 0 }
 {
-    if unfit {
-        return false;
-    }
-    words::is_on(0, words::read_word(image, 8))
+    if applies { Err(refusal) } else { Ok(()) }
 }
 
-// The lowest refusal of image, kind and guest memory, where there is one.
-fn first_refusal(unfit: bool, kind: u64) -> u64
-    ensures { result ≡ cond unfit 2 (cond (ltb 5 kind) 3 4) }
-{
-    if unfit {
-        return 2;
-    }
-    if 5 < kind {
-        return 3;
-    }
-    4
-}
-
-// What is alike for every address the caller has asked already, once for as many as it asks for. Which refusal it is, is worked out only where there is one.
-pub fn translate_refusal(unfit: bool, misfit: bool, paged: bool, kind: u64, a: u64) -> u64
-    ensures { (b : List ℕ) (mem : Memory) (ac : ℕ) → Asked b mem unfit misfit paged → result ≡ refusal b mem (translate kind a ac) }
-{
-    if unfit | (5 < kind) | misfit {
-        return first_refusal(unfit, kind);
-    }
-    address_refusal(paged, a)
-}
-
-pub fn invlpg_refusal(image: &[u8], a: u64) -> u64
-    ensures { result ≡ refusal image.now empty (invlpg a) }
+// The refusal that every call but a start begins with; else the image, as an array of its length.
+fn taken(image: &[u8]) -> Result<&[u8; 2048], Refusal>
+    ensures refused { told result ≡ cond (is_unfit image.now) 2 0 }
+    ensures same { IfOk result (λ whole. whole.now ≡ image.now) }
 {
     if is_unfit(image) {
-        return 2;
+        return Err(Refusal::Image);
     }
-    0
+    Ok(image.as_array().unwrap())
 }
 
-pub fn invpcid_refusal(image: &[u8], kind: u64, pcid: u64, a: u64) -> u64
-    ensures { result ≡ refusal image.now empty (invpcid kind pcid a) }
+// The flags are judged as those of a mode write, from flags 0 and CR3 0: what the image held is not read.
+pub fn start_refusal(image: &[u8], width: u64, flags: u64) -> Result<(), Refusal>
+    ensures { told result ≡ refusal image.now empty (start_with width flags) }
 {
-    if is_unfit(image) {
-        return 2;
-    }
-    if no_invpcid(image, kind, pcid, a) {
-        return 8;
-    }
-    0
+    refuse_if((image.len() != 2048) | is_outside(width), Refusal::Image)?;
+    refuse_if(no_mode(0, 0, flags), Refusal::Mode)
 }
 
-pub fn cr3_refusal(image: &[u8], value: u64) -> u64
-    ensures { result ≡ refusal image.now empty (write_cr3 value) }
+pub fn invlpg_refusal(image: &[u8], a: u64) -> Result<(), Refusal>
+    ensures { told result ≡ refusal image.now empty (invlpg a) }
 {
-    if is_unfit(image) {
-        return 2;
-    }
-    if no_cr3(image, value) {
-        return 6;
-    }
-    0
+    taken(image)?;
+    Ok(())
 }
 
-pub fn mode_refusal(image: &[u8], value: u64) -> u64
-    ensures { result ≡ refusal image.now empty (write_mode value) }
+pub fn invpcid_refusal(image: &[u8], kind: u64, pcid: u64, a: u64) -> Result<(), Refusal>
+    ensures { told result ≡ refusal image.now empty (invpcid kind pcid a) }
 {
-    if is_unfit(image) {
-        return 2;
-    }
+    let image = taken(image)?;
+    refuse_if(no_invpcid(image, kind, pcid, a), Refusal::Invpcid)
+}
+
+pub fn cr3_refusal(image: &[u8], value: u64) -> Result<(), Refusal>
+    ensures { told result ≡ refusal image.now empty (write_cr3 value) }
+{
+    let image = taken(image)?;
+    refuse_if(no_cr3(image, value), Refusal::Cr3)
+}
+
+pub fn mode_refusal(image: &[u8], value: u64) -> Result<(), Refusal>
+    ensures { told result ≡ refusal image.now empty (write_mode value) }
+{
+    let image = taken(image)?;
     let flags = words::read_word(image, 8);
     let cr3 = words::read_word(image, 16);
-    if no_mode(flags, cr3, value) {
-        return 7;
-    }
-    0
+    refuse_if(no_mode(flags, cr3, value), Refusal::Mode)
 }

@@ -2,7 +2,7 @@
 -- changes nothing.
 use Prim.Native.Nat.{ℕ, ◌+◌, ◌-◌, ◌≤◌, ◌<◌}
 use mathlib.Core.Path.{◌≡◌, refl, ap, sym, ◌∙◌, subst}
-use mathlib.Core.Bool.{Bool, true, false, true≢false}
+use mathlib.Core.Bool.{Bool, true, false}
 use mathlib.Core.List.{List}
 use native.Mathlib.Omega.{arith}
 use lib.ListN.{length, take, drop, take-append-drop, length-drop, drop_of_length-le}
@@ -73,23 +73,14 @@ module _ (r₀ : RunOf) (b₀ : List ℕ) (mem₀ : Low) (kept₀ piece out₀ :
         rest = rw (← drop-drop f.taken at piece) part_rest;
       }
 
-  pub feeding_over : f.taken ≡ 0 → TakesAll r₀ (record { run = f.run; whole = true }) b₀ b' mem₀ mem' kept₀ kept' piece
+  pub feeding_over : f.taken ≡ 0 → TakesAll r₀ b₀ b' mem₀ mem' kept₀ kept' piece f.run
   feeding_over e =
       let none : (taking (length out) (run_of r kept b mem) (drop at piece)).taken ≡ 0 = ap (λ (t : Taken). t.taken) (sym d.taken) ∙ e in
       let ended : is_over (run_of r kept b mem) ≡ true = none_taken (length out) (run_of r kept b mem) (drop at piece) h.roomy (omega (arith, length-drop at piece)) none in
       let same : run_of f.run kept' b' mem' ≡ run_of r kept b mem = ap (λ (t : Taken). t.step.run) d.taken ∙ stays (length out) (run_of r kept b mem) (drop at piece) none in
-      record {
-        run = λ t.
-            same
-            ∙ ap (λ (s : Step). s.run) (sym (over (run_of r kept b mem) (drop at piece) ended))
-            ∙ h.rest;
-      }
+      record { run = same ∙ ap (λ (s : Step). s.run) (sym (over (run_of r kept b mem) (drop at piece) ended)) ∙ h.rest }
 
 pub feeding_all : (r₀ : RunOf) (b₀ : List ℕ) (mem₀ : Low) (kept₀ piece out₀ : List ℕ) (b : List ℕ) (mem : Low) (kept out : List ℕ) (r : RunOf) (at : ℕ)
-    → Feeding r₀ b₀ mem₀ kept₀ piece out₀ b mem kept out r at → length piece ≤ at → TakesAll r₀ (record { run = r; whole = true }) b₀ b mem₀ mem kept₀ kept piece
+    → Feeding r₀ b₀ mem₀ kept₀ piece out₀ b mem kept out r at → length piece ≤ at → TakesAll r₀ b₀ b mem₀ mem kept₀ kept piece r
 unfolding bytes
-feeding_all r₀ b₀ mem₀ kept₀ piece out₀ b mem kept out r at h e = record { run = λ t. rw (drop_of_length-le piece e) at h.rest }
-
--- nothing is claimed where a write failed
-pub feeding_lost : (r₀ r : RunOf) (b₀ b : List ℕ) (mem₀ mem : Low) (kept₀ kept piece : List ℕ) → TakesAll r₀ (record { run = r; whole = false }) b₀ b mem₀ mem kept₀ kept piece
-feeding_lost r₀ r b₀ b mem₀ mem kept₀ kept piece = record { run = λ t. absurd (true≢false (sym t)) }
+feeding_all r₀ b₀ mem₀ kept₀ piece out₀ b mem kept out r at h e = record { run = rw (drop_of_length-le piece e) at h.rest }

@@ -6,7 +6,8 @@ use native.Mathlib.Omega.{arith}
 use lib.ListN.{length, take, drop, length-drop, drop_of_length-le}
 use lib.Seq.{length-take-le, take-append-add}
 use borrow.Author.Tests.{le-ltb}
-use Rattle.rules.specs.Bits.{word_at}
+use Rattle.records.specs.Record.{words_of, record_at}
+use Rattle.records.specs.declared.Record.{Record}
 use Rattle.rules.specs.Answers.{record_bytes}
 use Rattle.trace.specs.Orders.{order_of}
 use Rattle.trace.specs.Does.{Low, Given, line_does}
@@ -14,17 +15,10 @@ use Rattle.trace.specs.Printed.{printed}
 use Rattle.trace.specs.Totals.{counted}
 use Rattle.trace.specs.Pieces.{room}
 use Rattle.trace.specs.declared.Totals.{Totals}
-use Rattle.trace.proofs.Room.{line_low}
 use Rattle.lines.specs.Line.{LineLeft, line_in, Lines}
 use Rattle.lines.proofs.Answering.{given_fits, read_back}
 use Rattle.runs.specs.declared.Run.{Run as RunOf}
 use Rattle.runs.specs.Feeding.{Ends}
-
--- the totals do not ask for the value
-pub answer_counted : (t t' : Totals) (r : List ℕ) (k s n : ℕ) → k ≡ word_at r 0 → s ≡ word_at r 16 → n ≡ word_at r 24
-    → t' ≡ counted t (record { kind = k; value = 0; size = s; read = n })
-    → t' ≡ counted t (record { kind = word_at r 0; value = 0; size = word_at r 16; read = word_at r 24 })
-answer_counted t t' r k s n hk hs hn h = rw (← hk, ← hs, ← hn) h
 
 -- what is printed into the rest of the lent bytes stands behind what was there
 seam : (front back none : List ℕ) (i k : ℕ) → length front ≡ i → none ≡ [] → take (i + k) (front ++ (back ++ none)) ≡ front ++ take k back
@@ -50,15 +44,12 @@ module _ (r : RunOf) (b b' : List ℕ) (mem mem' : Low) (text out part' : List �
   count : n ≡ length (printed (r.lines + 1) given.answer)
   count = l.count ∙ ap (λ (o : LineLeft). length o.text) done
 
-  pub line_fits : n ≤ 80
-  line_fits = omega (arith, count, line_low (r.lines + 1) given.answer)
-
-  pub line_ended : (t : Totals) → t ≡ counted r.totals (record { kind = word_at r' 0; value = 0; size = word_at r' 16; read = word_at r' 24 })
+  pub line_ended : (t : Totals) (w : Record) → w ≡ record_at r' → t ≡ counted r.totals (words_of w)
       → Ends r b b' mem mem' text out (take at out ++ (part' ++ drop (length out - at) (drop at out))) at
       (record { run = record { kept = 0; lines = r.lines + 1; totals = t }; written = at + n })
-  line_ended t e =
+  line_ended t w k e =
       let back = read_back given.answer r' (ap (λ (o : LineLeft). o.answer) outcome) (given_fits (order_of text) b mem) in
-      let totals : t ≡ counted r.totals given.answer = e ∙ rw (back 0 (omega arith), back 2 (omega arith), back 3 (omega arith)) in
+      let totals : t ≡ counted r.totals given.answer = e ∙ rw (k, back 0 (omega arith), back 2 (omega arith), back 3 (omega arith)) in
       record {
         puts = record {
           place = omega (arith, count);

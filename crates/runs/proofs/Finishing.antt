@@ -1,7 +1,7 @@
 -- The input's end: where nothing is kept of a line that lacks its end, the totals alone; else that line is given its end, and then the totals.
 use Prim.Native.Nat.{ℕ, ◌+◌, ◌≤◌}
 use mathlib.Core.Path.{◌≡◌, refl, ap, ◌∙◌}
-use mathlib.Core.Bool.{Bool, true, false, ◌||◌, or-true}
+use mathlib.Core.Bool.{Bool, true, false, ◌||◌}
 use mathlib.Core.List.{List, [], ◌∷◌, ◌++◌, append-nil}
 use native.Mathlib.Omega.{arith}
 use lib.Dec.{eqb}
@@ -19,12 +19,6 @@ use Rattle.printing.proofs.Putting.{puts_fits}
 use Rattle.runs.specs.declared.Run.{Run as RunOf}
 use Rattle.runs.specs.declared.Fed.{Fed}
 use Rattle.runs.specs.Feeding.{run_of, Bounded, Feeds, Finishes}
-
-pub finish_none : (r : RunOf) (b : List ℕ) (mem : Low) (kept out out' : List ℕ) (n : ℕ) → r.kept ≡ 0
-    → Puts out out' 0 (total_line r.totals) n → Finishes r b b mem mem kept out' n
-finish_none r b mem kept out out' n z p =
-    let a : (is_over (run_of r kept b mem) || eqb (length (take r.kept kept)) 0) ≡ true = rw z (or-true (is_over (run_of r kept b mem))) in
-    record { fits = puts_fits out out' 0 (total_line r.totals) n p (omega arith); text = rw a p.text; image = rw a; memory = rw a }
 
 -- ---- the end that the last line lacks
 last_step : (left : ℕ) (r : Run) → room ≤ left → eqb (length r.text) 0 ≡ false → (taking left r (feed ∷ [])).step ≡ last_line r

@@ -1,4 +1,5 @@
 -- A turn takes the bytes of a line up to its end, or the piece's, and the line's end if it is there: what is left to take is what follows them.
+use Rattle.std.specs.Prelude.{Option}
 use Prim.Native.Nat.{ℕ, suc, ◌+◌, ◌-◌, ◌≤◌, ◌<◌}
 use mathlib.Core.Path.{◌≡◌, refl, ap, sym, ◌∙◌}
 use mathlib.Core.Bool.{Bool, true, false, cond}
@@ -71,7 +72,7 @@ line_ends left r bs h = rw (h, or_right _ (is_over r) h) (ap (λ (k : ℕ). reco
 ends_alike : (r : Run) (t t' : List ℕ) → order_of t ≡ order_of t' → ends (with_text t r) ≡ ends (with_text t' r)
 ends_alike r t t' e = ap by e
   where
-    by : Order → Step
+    by : Option Order → Step
     by o =
         let g : Given = does o r.image r.memory in
         record {

@@ -3,13 +3,12 @@
 #![tactic(auto)]
 
 ghost use Rattle.std.specs.Prelude.{◌+◌, ◌≤◌, ◌<◌, ◌≡◌, length};
-ghost use Rattle.rules.specs.Bits.{word_at};
-ghost use Rattle.trace.specs.Totals.{counted};
 ghost use Rattle.trace.specs.Trace.{most};
 ghost use Rattle.runs.specs.Feeding.{begins, Keeps, Gathers, text_of, Ends, Bounded, goes_on, Ready, Turns, Feeds, Finishes};
 
 use lines::ROOM;
-use trace::{Totals, counting};
+use records::Record;
+use trace::Totals;
 
 // So many bytes are kept of a line: a good one has fewer.
 pub const ENOUGH: usize = 53;
@@ -17,8 +16,9 @@ pub const ENOUGH: usize = 53;
 // Reading stops after so many lines.
 pub const MOST: u64 = 0xFFFF_FFFF;
 
-// What a run has come to, beside the bytes that are lent to it: how many bytes of a line are kept, how many lines were, and the totals.
-#[derive(Clone, Copy)]
+// What a run has come to, beside the bytes that are lent to it: how many bytes of a line are kept, how many lines were, and the totals. Plain numbers, since
+// a piece is taken from any run.
+#[derive(Clone, Copy, Default)]
 pub struct Run {
     pub kept: usize,
     pub lines: u64,
@@ -44,36 +44,22 @@ pub struct Fed {
 pub fn begin() -> Run
     ensures { result ≡ begins }
 {
-    Run {
-        kept: 0,
-        lines: 0,
-        totals: Totals {
-            addresses: 0,
-            hits: 0,
-            faults: 0,
-            refused: 0,
-        },
-    }
+    Run::default()
 }
 
 // More bytes of a line, as many as there is room for; returns how many are kept then.
-fn keep(kept: &mut [u8], count: usize, part: &[u8]) -> usize
-    requires { (length kept.old ≡ 53) × (count ≤ 53) }
+fn keep(kept: &mut [u8; 53], count: usize, part: &[u8]) -> usize
+    requires { count ≤ 53 }
     ensures { Keeps kept.old count part.now kept.new result }
 {
-    let mut n = count;
-    let mut i = 0;
-    while (n < ENOUGH) & (i < part.len()) {
-        kept[n] = part[i];
-        n += 1;
-        i += 1;
-    }
-    n
+    let n = part.len().min(ENOUGH - count);
+    kept[count..count + n].copy_from_slice(&part[..n]);
+    count + n
 }
 
 // The rest of a line that ends here: kept only where its start is.
-fn gather(kept: &mut [u8], count: usize, part: &[u8]) -> usize
-    requires { (length kept.old ≡ 53) × (count ≤ 53) }
+fn gather(kept: &mut [u8; 53], count: usize, part: &[u8]) -> usize
+    requires { count ≤ 53 }
     ensures { Gathers kept.old count part.now kept.new result }
 {
     if count == 0 {
@@ -93,16 +79,6 @@ fn text_of<'a>(kept: &'a [u8], n: usize, part: &'a [u8]) -> &'a [u8]
     &kept[..n]
 }
 
-// The totals with one answer more, which a record holds.
-fn with_answer(t: Totals, answer: &[u8; 32]) -> Totals
-    ensures { result ≡ counted t (record { kind = word_at answer.now 0; value = 0; size = word_at answer.now 16; read = word_at answer.now 24 }) }
-{
-    let kind = words::read_word(answer, 0);
-    let size = words::read_word(answer, 16);
-    let read = words::read_word(answer, 24);
-    counting::after(t, kind, size, read)
-}
-
 // A line ends: it is done, and its answer is counted.
 fn end_line(
     run: Run,
@@ -118,8 +94,8 @@ fn end_line(
     let mut answer = [0u8; 32];
     let lines = run.lines + 1;
     let n = lines::line(text, lines, image, mem, &mut answer, &mut out[at..]);
-    let was = run.totals;
-    let totals = with_answer(was, &answer);
+    let mut totals = run.totals;
+    totals.count(Record::read_from(&answer));
     Ended {
         run: Run {
             kept: 0,
@@ -135,7 +111,7 @@ fn turn(
     fed: Fed,
     image: &mut [u8],
     mem: &mut [u8],
-    kept: &mut [u8],
+    kept: &mut [u8; 53],
     piece: &[u8],
     out: &mut [u8],
 ) -> Fed
@@ -143,27 +119,21 @@ fn turn(
     ensures { Turns fed image.old image.new mem.old mem.new kept.old kept.new piece.now out.old out.new result }
 {
     let run = fed.run;
-    let from = fed.taken;
-    let at = reading::line_end(piece, from);
+    let at = reading::line_end(piece, fed.taken);
+    let part = &piece[fed.taken..at];
     if at == piece.len() {
-        let n = keep(kept, run.kept, &piece[from..at]);
-        let totals = run.totals;
+        let n = keep(kept, run.kept, part);
         return Fed {
-            run: Run {
-                kept: n,
-                lines: run.lines,
-                totals,
-            },
+            run: Run { kept: n, ..run },
             taken: at,
-            written: fed.written,
+            ..fed
         };
     }
-    let n = gather(kept, run.kept, &piece[from..at]);
-    let text = text_of(kept, n, &piece[from..at]);
+    let n = gather(kept, run.kept, part);
+    let text = text_of(kept, n, part);
     let ended = end_line(run, image, mem, text, out, fed.written);
-    let next = ended.run;
     Fed {
-        run: next,
+        run: ended.run,
         taken: at + 1,
         written: ended.written,
     }
@@ -173,14 +143,9 @@ fn turn(
 fn bounded(run: Run) -> Run
     ensures { Bounded run result }
 {
-    if run.kept < ENOUGH {
-        return run;
-    }
-    let totals = run.totals;
     Run {
-        kept: ENOUGH,
-        lines: run.lines,
-        totals,
+        kept: run.kept.min(ENOUGH),
+        ..run
     }
 }
 
@@ -189,8 +154,7 @@ fn goes_on(fed: Fed, piece: &[u8], out: &[u8]) -> bool
     requires { fed.written ≤ length out.now }
     ensures { result ≡ goes_on fed piece.now out.now }
 {
-    let run = fed.run;
-    (fed.taken < piece.len()) & (ROOM <= out.len() - fed.written) & (run.lines < MOST)
+    (fed.taken < piece.len()) & (ROOM <= out.len() - fed.written) & (fed.run.lines < MOST)
 }
 
 // Turn by turn.
@@ -198,11 +162,11 @@ fn turns(
     run: Run,
     image: &mut [u8],
     mem: &mut [u8],
-    kept: &mut [u8],
+    kept: &mut [u8; 53],
     piece: &[u8],
     out: &mut [u8],
 ) -> Fed
-    requires { (length kept.old ≡ 53) × (run.kept ≤ 53) }
+    requires { run.kept ≤ 53 }
     ensures { Feeds run image.old image.new mem.old mem.new kept.old kept.new piece.now out.old out.new result }
 {
     let mut fed = Fed {
@@ -231,17 +195,21 @@ pub fn feed(
 }
 
 // The last line, if it lacks its end, which it is given; and the totals.
-fn close(run: Run, image: &mut [u8], mem: &mut [u8], kept: &mut [u8], out: &mut [u8]) -> usize
-    requires { (length kept.old ≡ 53) × ((run.kept ≤ 53) × (length out.old ≡ 160)) }
+fn close(
+    run: Run,
+    image: &mut [u8],
+    mem: &mut [u8],
+    kept: &mut [u8; 53],
+    out: &mut [u8; 160],
+) -> usize
+    requires { run.kept ≤ 53 }
     ensures { Finishes run image.old image.new mem.old mem.new kept.old out.new result }
 {
-    let totals = run.totals;
     if run.kept == 0 {
-        return printing::put_totals(out, 0, totals);
+        return printing::put_totals(out, 0, run.totals);
     }
     let fed = turns(run, image, mem, kept, b"\n", out);
-    let last = fed.run;
-    printing::put_totals(out, fed.written, last.totals)
+    printing::put_totals(out, fed.written, fed.run.totals)
 }
 
 // The input's end: the last line may lack its own; then the totals.

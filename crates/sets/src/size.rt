@@ -1,8 +1,51 @@
 // The three page sizes: a type for each with its numbers, and what is the same for all.
-ghost use Rattle.std.specs.Prelude.{◌≡◌, ◌+◌, ◌%◌, ◌^◌, ◌<◌};
-ghost use Rattle.rules.specs.Sizes.{Is, small, middle, large, size_at, page_number};
+ghost use Rattle.std.specs.Prelude.{ℕ, ◌≡◌, ◌+◌, ◌%◌, ◌^◌, ◌<◌, refl};
+ghost use Rattle.rules.specs.Sizes.{Is, is_small, is_middle, is_large, small, middle, large, size_at, page_number};
+ghost use Rattle.rules.specs.declared.Size.{Size as SizeOf};
 
 use rules::Size;
+
+// A page size by its numbers: it is one of the three.
+pub trait PageSize {
+    const LEVEL: u64;
+
+    const LENGTH: u64;
+
+    const RESERVED: u64;
+
+    const SETS: u64;
+
+    const FIRST: u64;
+
+    ghost LEVEL: { ℕ };
+
+    ghost LENGTH: { ℕ };
+
+    ghost RESERVED: { ℕ };
+
+    ghost SETS: { ℕ };
+
+    ghost FIRST: { ℕ };
+
+    // The size of the rules that has these numbers.
+    ghost page_size: { SizeOf };
+
+    final fn size() -> Size
+        ensures { (result ≡ page_size) × Is result }
+    {
+        Size {
+            level: Self::LEVEL,
+            length: Self::LENGTH,
+            reserved: Self::RESERVED,
+            sets: Self::SETS,
+            first: Self::FIRST,
+        }
+    }
+
+    ghost is_size: { Is page_size };
+
+    ghost numbers: { page_size ≡ record { level = LEVEL; length = LENGTH; reserved = RESERVED; sets = SETS; first = FIRST } };
+}
 
 #[derive(Clone, Copy)]
 pub struct Page4K;
@@ -13,76 +56,88 @@ pub struct Page2M;
 #[derive(Clone, Copy)]
 pub struct Page1G;
 
-impl Page4K {
-    pub const LEVEL: u64 = 1;
+impl PageSize for Page4K {
+    const LEVEL: u64 = 1;
 
-    pub const LENGTH: u64 = 0x1000;
+    const LENGTH: u64 = 0x1000;
 
-    pub const RESERVED: u64 = 13;
+    const RESERVED: u64 = 13;
 
-    pub const SETS: u64 = 16;
+    const SETS: u64 = 16;
 
-    pub const FIRST: u64 = 0;
+    const FIRST: u64 = 0;
 
-    pub fn size() -> Size
-        ensures { result ≡ small }
-    {
-        Size {
-            level: Self::LEVEL,
-            length: Self::LENGTH,
-            reserved: Self::RESERVED,
-            sets: Self::SETS,
-            first: Self::FIRST,
-        }
-    }
+    ghost LEVEL = { 1 };
+
+    ghost LENGTH = { 0x1000 };
+
+    ghost RESERVED = { 13 };
+
+    ghost SETS = { 16 };
+
+    ghost FIRST = { 0 };
+
+    ghost page_size = { small };
+
+    ghost is_size = { is_small };
+
+    ghost numbers = { refl };
 }
 
-impl Page2M {
-    pub const LEVEL: u64 = 2;
+impl PageSize for Page2M {
+    const LEVEL: u64 = 2;
 
-    pub const LENGTH: u64 = 512 * Page4K::LENGTH;
+    const LENGTH: u64 = 512 * Page4K::LENGTH;
 
-    pub const RESERVED: u64 = 21;
+    const RESERVED: u64 = 21;
 
-    pub const SETS: u64 = 8;
+    const SETS: u64 = 8;
 
-    pub const FIRST: u64 = Page4K::FIRST + Page4K::SETS;
+    const FIRST: u64 = Page4K::FIRST + Page4K::SETS;
 
-    pub fn size() -> Size
-        ensures { result ≡ middle }
-    {
-        Size {
-            level: Self::LEVEL,
-            length: Self::LENGTH,
-            reserved: Self::RESERVED,
-            sets: Self::SETS,
-            first: Self::FIRST,
-        }
-    }
+    ghost LEVEL = { 2 };
+
+    ghost LENGTH = { 0x200000 };
+
+    ghost RESERVED = { 21 };
+
+    ghost SETS = { 8 };
+
+    ghost FIRST = { 16 };
+
+    ghost page_size = { middle };
+
+    ghost is_size = { is_middle };
+
+    ghost numbers = { refl };
 }
 
-impl Page1G {
-    pub const LEVEL: u64 = 3;
+impl PageSize for Page1G {
+    const LEVEL: u64 = 3;
 
-    pub const LENGTH: u64 = 512 * Page2M::LENGTH;
+    const LENGTH: u64 = 512 * Page2M::LENGTH;
 
-    pub const RESERVED: u64 = 30;
+    const RESERVED: u64 = 30;
 
-    pub const SETS: u64 = 1;
+    const SETS: u64 = 1;
 
-    pub const FIRST: u64 = Page2M::FIRST + Page2M::SETS;
+    const FIRST: u64 = Page2M::FIRST + Page2M::SETS;
 
-    pub fn size() -> Size
-        ensures { result ≡ large }
-    {
-        Size {
-            level: Self::LEVEL,
-            length: Self::LENGTH,
-            reserved: Self::RESERVED,
-            sets: Self::SETS,
-            first: Self::FIRST,
-        }
-    }
+    ghost LEVEL = { 3 };
+
+    ghost LENGTH = { 0x40000000 };
+
+    ghost RESERVED = { 30 };
+
+    ghost SETS = { 1 };
+
+    ghost FIRST = { 24 };
+
+    ghost page_size = { large };
+
+    ghost is_size = { is_large };
+
+    ghost numbers = { refl };
 }
 
 // The size of the pages at a level.

@@ -1,5 +1,5 @@
 // The tags of a set's four ways, read together.
-ghost use Rattle.std.specs.Prelude.{◌≡◌, length};
+ghost use Rattle.std.specs.Prelude.{◌≡◌};
 ghost use Rattle.rules.specs.Sizes.{Is, ways};
 ghost use Rattle.sets.specs.Ways.{any_held};
 
@@ -7,8 +7,8 @@ use crate::size;
 use rules::Size;
 
 // Whether one of the four ways of the address's set for a size is held, which is bit 0 of a tag's lowest byte.
-pub fn any_in(image: &[u8], z: Size, a: u64) -> bool
-    requires { (length image.now ≡ 2048) × Is z }
+pub fn any_in(image: &[u8; 2048], z: Size, a: u64) -> bool
+    requires { Is z }
     ensures { result ≡ any_held image.now (ways z a) }
 {
     let number = size::page_number(z, a);

@@ -1,6 +1,6 @@
 -- Cases that are shown by computation: what lines ask for, and traces line by line with their whole output.
 -- A list of cases stands under one claim, that all come out as they should, which is shown by computing both sides.
-use Rattle.std.proofs.Common.{◌≡◌, ℕ, List, [], ◌∷◌, ◌++◌, map, refl}
+use Rattle.std.proofs.Common.{◌≡◌, ℕ, Option, Some, None, List, [], ◌∷◌, ◌++◌, map, refl}
 use Prim.Native.Char.{code}
 use Prim.Native.String.{String, [] as end, ◌∷◌ as ◌then◌}
 use Rattle.rules.specs.Image.{encode, decode}
@@ -10,7 +10,7 @@ use Rattle.trace.specs.Orders.{order_of}
 use Rattle.trace.specs.Totals.{count}
 use Rattle.trace.specs.Trace.{most, answers, printed_from, output}
 use Rattle.trace.specs.declared.Order.{Order}
-use Rattle.trace.specs.declared.Order.TheVariants.{Start, Mode, Cr3, Invlpg, Invpcid, Translate, Put, Bad}
+use Rattle.trace.specs.declared.Order.TheVariants.{Start, Mode, Cr3, Invlpg, Invpcid, Translate, Put}
 
 -- a text's characters are ASCII, each a byte
 abbrev bytes_of : String → List ℕ
@@ -21,72 +21,72 @@ bytes_of (c then s) = code c ∷ bytes_of s
 infix 70 ◌asks◌
 record Asked : Type 0 where
   line : String
-  order : Order
+  order : Option Order
 
-abbrev ◌asks◌ : String → Order → Asked
+abbrev ◌asks◌ : String → Option Order → Asked
 ◌asks◌ l o = record { line = l; order = o }
 
 abbrev lines : List Asked
 lines =
     -- the letters, with their fields in order
-    "S\t28" asks Start 0x28
-    ∷ "M\t17" asks Mode 0x17
-    ∷ "C\t1000" asks Cr3 0x1000
-    ∷ "I\t2000" asks Invlpg 0x2000
-    ∷ "V\t1\t2\t3" asks Invpcid 1 2 3
-    ∷ "T\t4\t5" asks Translate 4 5
-    ∷ "P\t8\t6" asks Put 8 6
+    "S\t28" asks Some (Start 0x28)
+    ∷ "M\t17" asks Some (Mode 0x17)
+    ∷ "C\t1000" asks Some (Cr3 0x1000)
+    ∷ "I\t2000" asks Some (Invlpg 0x2000)
+    ∷ "V\t1\t2\t3" asks Some (Invpcid 1 2 3)
+    ∷ "T\t4\t5" asks Some (Translate 4 5)
+    ∷ "P\t8\t6" asks Some (Put 8 6)
     -- digits of either case, leading zeros, 16 digits and 17
-    ∷ "T\t01234567\t89ABCDEF" asks Translate 0x1234567 0x89ABCDEF
-    ∷ "T\t0\tabcdef" asks Translate 0 0xABCDEF
-    ∷ "I\tFFFFffffFFFFffff" asks Invlpg 0xFFFFFFFFFFFFFFFF
-    ∷ "I\t0000000000000001" asks Invlpg 1
-    ∷ "I\t00000000000000001" asks Bad
-    ∷ "V\t0000000000000001\t0000000000000002\t0000000000000003" asks Invpcid 1 2 3
+    ∷ "T\t01234567\t89ABCDEF" asks Some (Translate 0x1234567 0x89ABCDEF)
+    ∷ "T\t0\tabcdef" asks Some (Translate 0 0xABCDEF)
+    ∷ "I\tFFFFffffFFFFffff" asks Some (Invlpg 0xFFFFFFFFFFFFFFFF)
+    ∷ "I\t0000000000000001" asks Some (Invlpg 1)
+    ∷ "I\t00000000000000001" asks None
+    ∷ "V\t0000000000000001\t0000000000000002\t0000000000000003" asks Some (Invpcid 1 2 3)
     -- the bytes beside the digits
-    ∷ "I\t/" asks Bad
-    ∷ "I\t:" asks Bad
-    ∷ "I\t@" asks Bad
-    ∷ "I\tG" asks Bad
-    ∷ "I\t`" asks Bad
-    ∷ "I\tg" asks Bad
-    ∷ "I\t-1" asks Bad
-    ∷ "I\t0x1" asks Bad
+    ∷ "I\t/" asks None
+    ∷ "I\t:" asks None
+    ∷ "I\t@" asks None
+    ∷ "I\tG" asks None
+    ∷ "I\t`" asks None
+    ∷ "I\tg" asks None
+    ∷ "I\t-1" asks None
+    ∷ "I\t0x1" asks None
     -- nothing, and what stands around a line
-    ∷ "" asks Bad
-    ∷ "\t" asks Bad
-    ∷ "S\t28\r" asks Bad
-    ∷ "\r" asks Bad
-    ∷ " S\t28" asks Bad
-    ∷ "S\t28 " asks Bad
-    ∷ "S 28" asks Bad
-    ∷ "\tS\t28" asks Bad
-    ∷ "S\t28\t" asks Bad
-    ∷ "S\t\t28" asks Bad
-    ∷ "T\t0\t\t1000" asks Bad
-    ∷ "T\t0\t" asks Bad
-    ∷ "T\t\t0" asks Bad
+    ∷ "" asks None
+    ∷ "\t" asks None
+    ∷ "S\t28\r" asks None
+    ∷ "\r" asks None
+    ∷ " S\t28" asks None
+    ∷ "S\t28 " asks None
+    ∷ "S 28" asks None
+    ∷ "\tS\t28" asks None
+    ∷ "S\t28\t" asks None
+    ∷ "S\t\t28" asks None
+    ∷ "T\t0\t\t1000" asks None
+    ∷ "T\t0\t" asks None
+    ∷ "T\t\t0" asks None
     -- no such letter
-    ∷ "s\t28" asks Bad
-    ∷ "A\t28" asks Bad
-    ∷ "SS\t28" asks Bad
-    ∷ "83\t28" asks Bad
-    ∷ "\t28" asks Bad
+    ∷ "s\t28" asks None
+    ∷ "A\t28" asks None
+    ∷ "SS\t28" asks None
+    ∷ "83\t28" asks None
+    ∷ "\t28" asks None
     -- a field too few
-    ∷ "S" asks Bad
-    ∷ "S\t" asks Bad
-    ∷ "T\t0" asks Bad
-    ∷ "P\t8" asks Bad
-    ∷ "V\t0" asks Bad
-    ∷ "V\t0\t0" asks Bad
+    ∷ "S" asks None
+    ∷ "S\t" asks None
+    ∷ "T\t0" asks None
+    ∷ "P\t8" asks None
+    ∷ "V\t0" asks None
+    ∷ "V\t0\t0" asks None
     -- a field too many
-    ∷ "S\t28\t0" asks Bad
-    ∷ "M\t1\t0" asks Bad
-    ∷ "C\t0\t0" asks Bad
-    ∷ "I\t0\t0" asks Bad
-    ∷ "T\t0\t0\t0" asks Bad
-    ∷ "P\t8\t0\t0" asks Bad
-    ∷ "V\t0\t0\t0\t0" asks Bad
+    ∷ "S\t28\t0" asks None
+    ∷ "M\t1\t0" asks None
+    ∷ "C\t0\t0" asks None
+    ∷ "I\t0\t0" asks None
+    ∷ "T\t0\t0\t0" asks None
+    ∷ "P\t8\t0\t0" asks None
+    ∷ "V\t0\t0\t0\t0" asks None
     ∷ []
 
 pub lines_right : map (λ c. order_of (bytes_of c.line)) lines ≡ map (λ c. c.order) lines

@@ -5,4 +5,3 @@ pub mod Whole
 pub mod Taking
 pub mod Room
 pub mod Cases
-pub mod Machine

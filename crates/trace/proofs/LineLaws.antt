@@ -1,15 +1,12 @@
 -- No line of more than 52 bytes is good, so its first 53 bytes say what it asks for. A line's fields, each with a separator, have one byte more than the
 -- line; a good line has a letter and at most three fields of at most 16 digits, so 53 with theirs.
-use Rattle.std.proofs.Common.{◌≡◌, ℕ, suc, ◌+◌, ◌<◌, ◌≤◌, Bool, true, false, cond, ◌&&◌, eqb, ltb, leb, List, [], ◌∷◌, map, length, take, sym, refl, ap, ◌∙◌, arith, length-take-le, take_all, leb-false, leb-true}
+use Rattle.std.proofs.Common.{◌≡◌, ℕ, suc, Option, Some, None, ◌+◌, ◌<◌, ◌≤◌, Bool, true, false, cond, ◌&&◌, eqb, ltb, leb, List, [], ◌∷◌, map, length, take, sym, refl, ap, ◌∙◌, arith, length-take-le, take_all, leb-false, leb-true}
 use Rattle.rules.proofs.BoolLaws.{either, and_right}
 use Rattle.trace.specs.Text.{tab, onto, parted, fields_of}
 use Rattle.trace.specs.Numbers.{number_of, value_of}
 use Rattle.trace.specs.Orders.{ordered, by_fields, order_of}
 use Rattle.trace.specs.Pieces.{enough}
 use Rattle.trace.specs.Claims.{Short, Enough}
-use Rattle.trace.specs.declared.Number.{Number}
-use Rattle.trace.specs.declared.Number.TheVariants.{Of, Bad as NoNumber}
-use Rattle.trace.specs.declared.Order.TheVariants.{Bad}
 
 -- ---- the length of parts, each with a separator
 abbrev pub spread : List (List ℕ) → ℕ
@@ -30,49 +27,49 @@ spread_parted s (b ∷ bs) = go (eqb b s) (parted s ([] ∷ []) bs) (spread_part
     go false ps h = spread_onto b (length bs) ps h
 
 -- ---- a number has at most 16 digits
-abbrev Sized : ℕ → Number → Type 0
-Sized n (Of x) = n ≤ 16
-Sized n NoNumber = Unit
+abbrev Sized : ℕ → Option ℕ → Type 0
+Sized n (Some x) = n ≤ 16
+Sized n None = Unit
 
 sized : (f : List ℕ) → Sized (length f) (number_of f)
 sized f =
     either (Sized (length f)) (ltb 0 (length f) && leb (length f) 16) _ _
     (λ e. low (leb-true _ _ (and_right (ltb 0 (length f)) (leb (length f) 16) e)) (value_of f 0)) (λ e. tt {0})
   where
-    low : length f ≤ 16 → (x : Number) → Sized (length f) x
-    low h (Of x) = h
-    low h NoNumber = tt {0}
+    low : length f ≤ 16 → (x : Option ℕ) → Sized (length f) x
+    low h (Some x) = h
+    low h None = tt {0}
 
-ordered_long : (c : ℕ) (fs : List (List ℕ)) → 51 < spread fs → ordered c (map number_of fs) ≡ Bad
+ordered_long : (c : ℕ) (fs : List (List ℕ)) → 51 < spread fs → ordered c (map number_of fs) ≡ None
 ordered_long c [] h = refl
 ordered_long c (f ∷ []) h = go (number_of f) (sized f)
   where
-    go : (x : Number) → Sized (length f) x → ordered c (x ∷ []) ≡ Bad
-    go (Of x) p = absurd (omega arith)
-    go NoNumber p = refl
+    go : (x : Option ℕ) → Sized (length f) x → ordered c (x ∷ []) ≡ None
+    go (Some x) p = absurd (omega arith)
+    go None p = refl
 ordered_long c (f ∷ g ∷ []) h = go (number_of f) (sized f) (number_of g) (sized g)
   where
-    go : (x : Number) → Sized (length f) x → (y : Number) → Sized (length g) y → ordered c (x ∷ y ∷ []) ≡ Bad
-    go (Of x) p (Of y) q = absurd (omega arith)
-    go (Of x) p NoNumber q = refl
-    go NoNumber p y q = refl
+    go : (x : Option ℕ) → Sized (length f) x → (y : Option ℕ) → Sized (length g) y → ordered c (x ∷ y ∷ []) ≡ None
+    go (Some x) p (Some y) q = absurd (omega arith)
+    go (Some x) p None q = refl
+    go None p y q = refl
 ordered_long c (f ∷ g ∷ k ∷ []) h = go (number_of f) (sized f) (number_of g) (sized g) (number_of k) (sized k)
   where
-    go : (x : Number) → Sized (length f) x → (y : Number) → Sized (length g) y → (z : Number) → Sized (length k) z
-        → ordered c (x ∷ y ∷ z ∷ []) ≡ Bad
-    go (Of x) p (Of y) q (Of z) r = absurd (omega arith)
-    go (Of x) p (Of y) q NoNumber r = refl
-    go (Of x) p NoNumber q z r = refl
-    go NoNumber p y q z r = refl
+    go : (x : Option ℕ) → Sized (length f) x → (y : Option ℕ) → Sized (length g) y → (z : Option ℕ) → Sized (length k) z
+        → ordered c (x ∷ y ∷ z ∷ []) ≡ None
+    go (Some x) p (Some y) q (Some z) r = absurd (omega arith)
+    go (Some x) p (Some y) q None r = refl
+    go (Some x) p None q z r = refl
+    go None p y q z r = refl
 ordered_long c (f ∷ g ∷ k ∷ l ∷ fs) h = go (number_of f) (number_of g) (number_of k)
   where
-    go : (x y z : Number) → ordered c (x ∷ y ∷ z ∷ map number_of (l ∷ fs)) ≡ Bad
-    go (Of x) (Of y) (Of z) = refl
-    go (Of x) (Of y) NoNumber = refl
-    go (Of x) NoNumber z = refl
-    go NoNumber y z = refl
+    go : (x y z : Option ℕ) → ordered c (x ∷ y ∷ z ∷ map number_of (l ∷ fs)) ≡ None
+    go (Some x) (Some y) (Some z) = refl
+    go (Some x) (Some y) None = refl
+    go (Some x) None z = refl
+    go None y z = refl
 
-fields_long : (fs : List (List ℕ)) → 53 < spread fs → by_fields fs ≡ Bad
+fields_long : (fs : List (List ℕ)) → 53 < spread fs → by_fields fs ≡ None
 fields_long [] h = refl
 fields_long ([] ∷ fs) h = refl
 fields_long ((c ∷ []) ∷ fs) h = ordered_long c fs (omega arith)

@@ -1,7 +1,7 @@
 -- A run over an input, in whatever pieces, prints the output of the whole. What is still printed from a run on is what the lines that are left
 -- give: those of the input to come, with the text so far before the first. Of that text the run keeps only the start, which says what the line
 -- asks for.
-use Rattle.std.proofs.Common.{◌≡◌, ℕ, zero, suc, ◌+◌, ◌≤◌, Bool, true, false, cond, ◌||◌, eqb, List, [], ◌∷◌, ◌++◌, length, take, sym, refl, ap, ◌∙◌, append_assoc, arith, le-leb}
+use Rattle.std.proofs.Common.{◌≡◌, ℕ, zero, suc, Option, ◌+◌, ◌≤◌, Bool, true, false, cond, ◌||◌, eqb, List, [], ◌∷◌, ◌++◌, length, take, sym, refl, ap, ◌∙◌, append_assoc, arith, le-leb}
 use mathlib.Core.Bool.{or-true}
 use mathlib.Core.List.{flatten}
 use lib.Dec.{eqb-suc-zero}
@@ -50,7 +50,7 @@ rest_line : (r : Run) (g : List ℕ) (ls : List (List ℕ)) → r.text ≡ take 
 unfolding answers printed_from
 rest_line r g ls e =
     first (line_does r.text r.image r.memory)
-    ∙ ap (λ (o : Order). from (does o r.image r.memory)) (ap order_of e ∙ enough_says g)
+    ∙ ap (λ (o : Option Order). from (does o r.image r.memory)) (ap order_of e ∙ enough_says g)
   where
     from : Given → List ℕ
     from v = told r.lines r.totals (v.answer ∷ answers ls v.image v.memory)

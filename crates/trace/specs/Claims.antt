@@ -1,18 +1,17 @@
 -- What is claimed of a run over an input in pieces: wherever the input is cut, what is printed is the output of the whole.
-use Rattle.std.specs.Prelude.{◌≡◌, ℕ, ◌-◌, ◌<◌, ◌≤◌, true, false, List, [], ◌∷◌, ◌++◌, length, take}
+use Rattle.std.specs.Prelude.{◌≡◌, ℕ, None, ◌-◌, ◌<◌, ◌≤◌, true, false, List, [], ◌∷◌, ◌++◌, length, take}
 use mathlib.Core.List.{flatten}
 use Rattle.rules.specs.Answers.{Words}
 use Rattle.trace.specs.Orders.{order_of}
 use Rattle.trace.specs.Totals.{totals_of, counted, no_totals}
 use Rattle.trace.specs.Trace.{most, output}
 use Rattle.trace.specs.Pieces.{Run, begun, enough, is_over, Step, after, bytes, finished, room, Taken, is_full, taking}
-use Rattle.trace.specs.declared.Order.TheVariants.{Bad}
 use Rattle.trace.specs.declared.Totals.{Totals}
 
 -- ---- lines
 -- no line of more than 52 bytes is good
 abbrev pub Short : Type 0
-Short = (l : List ℕ) → 52 < length l → order_of l ≡ Bad
+Short = (l : List ℕ) → 52 < length l → order_of l ≡ None
 
 -- so what a run keeps of a line says what the line asks for
 abbrev pub Enough : Type 0

@@ -1,5 +1,5 @@
 -- What a line does: a call of the rules, a start with flags 0 and a translate with AC 0; or the store of one guest word.
-use Rattle.std.specs.Prelude.{ℕ, ◌+◌, ◌%◌, Bool, cond, ◌&&◌, List, [], length, ◌==◌, nat_le}
+use Rattle.std.specs.Prelude.{ℕ, Option, Some, None, ◌+◌, ◌%◌, Bool, cond, ◌&&◌, List, [], length, ◌==◌, nat_le}
 use Rattle.rules.specs.Bits.{word_put}
 use Rattle.rules.specs.Memory.{both}
 use Rattle.rules.specs.Answers.{Words, numbers}
@@ -8,7 +8,7 @@ use Rattle.rules.specs.Calls.{Outcome, call}
 use Rattle.rules.specs.declared.Answer.TheVariants.{Done}
 use Rattle.trace.specs.Orders.{order_of}
 use Rattle.trace.specs.declared.Order.{Order}
-use Rattle.trace.specs.declared.Order.TheVariants.{Start, Mode, Cr3, Invlpg, Invpcid, Translate, Put, Bad}
+use Rattle.trace.specs.declared.Order.TheVariants.{Start, Mode, Cr3, Invlpg, Invpcid, Translate, Put}
 
 -- the guest memory of a trace is low alone: calls are lent no high
 abbrev pub Low : Type 0
@@ -39,15 +39,15 @@ abbrev pub stores : List ℕ → Low → ℕ → ℕ → Given
 stores b mem a x =
     cond (is_place mem a) (record { answer = numbers Done; image = b; memory = word_put mem a x }) (refuses_line b mem)
 
-abbrev pub does : Order → List ℕ → Low → Given
-does (Start w) b mem = calls b mem (start_with w 0)
-does (Mode v) b mem = calls b mem (write_mode v)
-does (Cr3 v) b mem = calls b mem (write_cr3 v)
-does (Invlpg a) b mem = calls b mem (invlpg a)
-does (Invpcid t p a) b mem = calls b mem (invpcid t p a)
-does (Translate k a) b mem = calls b mem (translate k a 0)
-does (Put a x) b mem = stores b mem a x
-does Bad b mem = refuses_line b mem
+abbrev pub does : Option Order → List ℕ → Low → Given
+does (Some (Start w)) b mem = calls b mem (start_with w 0)
+does (Some (Mode v)) b mem = calls b mem (write_mode v)
+does (Some (Cr3 v)) b mem = calls b mem (write_cr3 v)
+does (Some (Invlpg a)) b mem = calls b mem (invlpg a)
+does (Some (Invpcid t p a)) b mem = calls b mem (invpcid t p a)
+does (Some (Translate k a)) b mem = calls b mem (translate k a 0)
+does (Some (Put a x)) b mem = stores b mem a x
+does None b mem = refuses_line b mem
 
 abbrev pub line_does : List ℕ → List ℕ → Low → Given
 line_does line = does (order_of line)

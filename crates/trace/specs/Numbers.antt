@@ -1,7 +1,5 @@
 -- Numbers in hex digits, as a trace has them and as they are printed.
-use Rattle.std.specs.Prelude.{ℕ, zero, suc, ◌+◌, ◌*◌, ◌/◌, ◌%◌, ◌^◌, cond, ◌&&◌, ◌||◌, List, [], ◌∷◌, map, length, nat_le, nat_lt}
-use Rattle.trace.specs.declared.Number.{Number}
-use Rattle.trace.specs.declared.Number.TheVariants.{Of, Bad}
+use Rattle.std.specs.Prelude.{ℕ, zero, suc, Option, Some, None, ◌+◌, ◌*◌, ◌/◌, ◌%◌, ◌^◌, cond, ◌&&◌, ◌||◌, List, [], ◌∷◌, map, length, nat_le, nat_lt}
 
 -- ---- read: 1 to 16 digits, of either case
 -- a byte's digit: 0 to 9, A to F, a to f; 16 stands for what is no digit
@@ -10,13 +8,13 @@ digit_of b =
     cond (nat_le 48 b && nat_le b 57) (b % 16)
     (cond (nat_le 65 b && nat_le b 70 || nat_le 97 b && nat_le b 102) (b % 16 + 9) 16)
 
--- the number that digits make after a number
-unfoldable pub value_of : List ℕ → ℕ → Number
-value_of [] n = Of n
-value_of (b ∷ bs) n = cond (nat_lt (digit_of b) 16) (value_of bs (n * 16 + digit_of b)) Bad
+-- the number that digits make after a number; none where a byte is no digit
+unfoldable pub value_of : List ℕ → ℕ → Option ℕ
+value_of [] n = Some n
+value_of (b ∷ bs) n = cond (nat_lt (digit_of b) 16) (value_of bs (n * 16 + digit_of b)) None
 
-abbrev pub number_of : List ℕ → Number
-number_of bs = cond (nat_lt 0 (length bs) && nat_le (length bs) 16) (value_of bs 0) Bad
+abbrev pub number_of : List ℕ → Option ℕ
+number_of bs = cond (nat_lt 0 (length bs) && nat_le (length bs) 16) (value_of bs 0) None
 
 -- ---- printed: in lower case, without leading zeros, and 0 as one digit
 -- the n lowest digits of a number, highest first

@@ -2,19 +2,19 @@
 
 #![tactic(auto)]
 
-pub mod counting; // counting.rt: one answer more in the totals
+ghost use Rattle.std.specs.Prelude.{◌≡◌};
+ghost use Rattle.records.specs.Record.{words_of};
+ghost use Rattle.trace.specs.Totals.{more as more_of, counted as counted_of};
+
+use records::Record;
 
 // What parts a line's fields, and what ends a line.
-pub const TAB: u8 = 9;
+pub const TAB: u8 = b'\t';
 
-pub const FEED: u8 = 10;
+pub const FEED: u8 = b'\n';
 
-// What a field's bytes are.
-#[derive(Clone, Copy)]
-pub enum Number {
-    Of(u64),
-    Bad,
-}
+// The kind of a bad line's answer, a fifth one, which no call gives.
+pub const BAD: u64 = 4;
 
 // What a line asks for.
 #[derive(Clone, Copy)]
@@ -26,11 +26,10 @@ pub enum Order {
     Invpcid { kind: u64, pcid: u64, address: u64 },
     Translate { kind: u64, address: u64 },
     Put { address: u64, word: u64 },
-    Bad,
 }
 
 // What is counted over a trace.
-#[derive(Clone, Copy)]
+#[derive(Clone, Copy, Default)]
 pub struct Totals {
     // Translations that gave an address.
     pub addresses: u64,
@@ -38,4 +37,34 @@ pub struct Totals {
     pub hits: u64,
     pub faults: u64,
     pub refused: u64,
+}
+
+// A count with one more if it is so.
+fn more(b: bool, n: u64) -> u64
+    ensures { result ≡ more_of b n }
+{
+    n.wrapping_add(u64::from(b))
+}
+
+impl Totals {
+    // With one answer more, by its kind, page size and entries read.
+    pub fn counted(self, answer: Record) -> Totals
+        ensures { result ≡ counted_of self (words_of answer) }
+    {
+        let is_address = answer.kind == records::ADDRESS;
+        let is_hit = is_address & (answer.size != 0) & (answer.read == 0);
+        Totals {
+            addresses: more(is_address, self.addresses),
+            hits: more(is_hit, self.hits),
+            faults: more(answer.kind == records::FAULT, self.faults),
+            refused: more(answer.kind == records::REFUSED, self.refused),
+        }
+    }
+
+    // The same in place.
+    pub fn count(&mut self, answer: Record)
+        ensures { self.new ≡ counted_of self.old (words_of answer) }
+    {
+        *self = self.counted(answer);
+    }
 }

@@ -5,7 +5,6 @@ ghost use Rattle.rules.specs.Refusals.{translate as translateOf, write_cr3, writ
 ghost use Rattle.rules.specs.TrialGuest.{guest};
 ghost use Rattle.trial.specs.Trial.{ready, Came, CameWith};
 
-use crate::report;
 use crate::report::Told;
 use translator::{calls, translation};
 
@@ -25,7 +24,7 @@ fn put(mem: &mut [u8; 24576], at: usize, entry: u64)
 }
 
 // The guest's 24 KiB as they are before a case.
-pub fn memory() -> [u8; 24576]
+fn memory() -> [u8; 24576]
     ensures { result ≡ guest }
 {
     let mut mem = [0u8; 24576];
@@ -43,7 +42,7 @@ pub fn memory() -> [u8; 24576]
 }
 
 // The image as it is before a case.
-pub fn image() -> [u8; 2048]
+fn image() -> [u8; 2048]
     ensures { result ≡ ready }
 {
     let mut image = [0u8; 2048];
@@ -53,30 +52,51 @@ pub fn image() -> [u8; 2048]
     image
 }
 
-// The guest's word at a place.
-pub fn word(mem: &[u8; 24576], at: usize) -> u64
-    requires { at + 8 ≤ 24576 }
-    ensures { result ≡ word_at mem.now at }
-{
-    words::read_word(mem, at)
+// The guest of a case: its image, and its memory, all of which is low.
+#[derive(Drop)]
+pub struct Guest {
+    pub image: [u8; 2048],
+    pub memory: [u8; 24576],
 }
 
-pub fn translate(image: &mut [u8; 2048], mem: &mut [u8; 24576], kind: u64, a: u64) -> Told
-    ensures { CameWith (translateOf kind a 0) image.old image.new mem.old mem.new result }
-{
-    // All its RAM is low.
-    let mut high = [0u8; 0];
-    report::told_of(translation::translate(image, mem, &mut high, kind, a, 0))
-}
+impl Guest {
+    // As it is before a case.
+    pub fn new() -> Guest
+        ensures image { result.image ≡ ready }
+        ensures memory { result.memory ≡ guest }
+    {
+        Guest {
+            image: image(),
+            memory: memory(),
+        }
+    }
 
-pub fn write_cr3(image: &mut [u8; 2048], value: u64) -> Told
-    ensures { Came (write_cr3 value) image.old image.new result }
-{
-    report::told_of(calls::write_cr3(image, value))
-}
+    // The guest's word at a place.
+    pub fn word(&self, at: usize) -> u64
+        requires { at + 8 ≤ 24576 }
+        ensures { result ≡ word_at self.now.memory at }
+    {
+        words::read_word(&self.memory, at)
+    }
 
-pub fn write_mode(image: &mut [u8; 2048], flags: u64) -> Told
-    ensures { Came (write_mode flags) image.old image.new result }
-{
-    report::told_of(calls::write_mode(image, flags))
+    pub fn translate(&mut self, kind: u64, a: u64) -> Told
+        ensures { CameWith (translateOf kind a 0) self.old.image self.new.image self.old.memory self.new.memory result }
+    {
+        let mut high = [0u8; 0];
+        Told::from(translation::translate(&mut self.image, &mut self.memory, &mut high, kind, a, 0))
+    }
+
+    pub fn write_cr3(&mut self, value: u64) -> Told
+        ensures came { Came (write_cr3 value) self.old.image self.new.image result }
+        ensures memory { self.new.memory ≡ self.old.memory }
+    {
+        Told::from(calls::write_cr3(&mut self.image, value))
+    }
+
+    pub fn write_mode(&mut self, flags: u64) -> Told
+        ensures came { Came (write_mode flags) self.old.image self.new.image result }
+        ensures memory { self.new.memory ≡ self.old.memory }
+    {
+        Told::from(calls::write_mode(&mut self.image, flags))
+    }
 }

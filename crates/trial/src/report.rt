@@ -3,167 +3,130 @@ ghost use Rattle.std.specs.Prelude.{◌≡◌, ◌==◌};
 ghost use Rattle.trial.specs.Trial.{Tells, are_alike, tallied};
 
 use rules::Answer;
+use std::fmt;
 
 // An answer as the paper's record has it, without the page size.
-#[derive(Clone, Copy)]
-pub struct Told {
-    // 0 address, 1 fault, 2 refused, 3 done.
-    pub kind: u64,
-    pub value: u64,
-    pub read: u64,
+#[derive(Clone, Copy, Debug, PartialEq, Eq)]
+pub enum Told {
+    Address { value: u64, read: u64 },
+    Fault { code: u64, read: u64 },
+    Refused { number: u64 },
+    Done,
+}
+
+impl Told {
+    // The address that was found.
+    pub fn address(value: u64, read: u64) -> Told
+        ensures { result ≡ Told.Address value read }
+    {
+        Self::Address { value, read }
+    }
+
+    // The fault of this code.
+    pub fn fault(code: u64, read: u64) -> Told
+        ensures { result ≡ Told.Fault code read }
+    {
+        Self::Fault { code, read }
+    }
+}
+
+impl From<Answer> for Told {
+    ghost from_gives = { Tells };
+
+    fn from(answer: Answer) -> Told {
+        match answer {
+            Answer::Address { value, read, .. } => Told::Address { value, read },
+            Answer::PageFault { code, read, .. } => Told::Fault { code, read },
+            Answer::Refused { number } => Told::Refused { number },
+            Answer::Done => Told::Done,
+        }
+    }
+}
+
+impl fmt::Display for Told {
+    fn fmt<W: fmt::Write>(&self, f: &mut fmt::Formatter<W>) -> fmt::Result {
+        match *self {
+            Told::Address { value, read } => write!(f, "address 0x{value:x}, {read} read"),
+            Told::Fault { code, read } => write!(f, "fault 0x{code:x}, {read} read"),
+            Told::Refused { number } => write!(f, "refusal 0x{number:x}"),
+            Told::Done => write!(f, "done"),
+        }
+    }
 }
 
 // How many lines have passed, and how many failed.
-#[derive(Clone, Copy)]
+#[derive(Clone, Copy, Debug, PartialEq, Eq)]
 pub struct Tally {
     pub passed: u64,
     pub failed: u64,
 }
 
-pub fn address(value: u64, read: u64) -> Told
-    ensures { (result.kind ≡ 0) × ((result.value ≡ value) × (result.read ≡ read)) }
-{
-    Told {
-        kind: 0,
-        value,
-        read,
+impl Tally {
+    // One line more; the sums cannot wrap before 2^64 lines are written.
+    fn count(&mut self, good: bool)
+        ensures { self.new ≡ tallied good self.old }
+    {
+        if good {
+            self.passed = self.passed.wrapping_add(1);
+        } else {
+            self.failed = self.failed.wrapping_add(1);
+        }
     }
 }
 
-pub fn fault(code: u64, read: u64) -> Told
-    ensures { (result.kind ≡ 1) × ((result.value ≡ code) × (result.read ≡ read)) }
-{
-    Told {
-        kind: 1,
-        value: code,
-        read,
+impl fmt::Display for Tally {
+    fn fmt<W: fmt::Write>(&self, f: &mut fmt::Formatter<W>) -> fmt::Result {
+        write!(f, "{} passed, {} failed", self.passed, self.failed)
     }
 }
 
-pub fn refused(number: u64) -> Told
-    ensures { (result.kind ≡ 2) × ((result.value ≡ number) × (result.read ≡ 0)) }
-{
-    Told {
-        kind: 2,
-        value: number,
-        read: 0,
+// Where the lines go, and their tally. A write that fails is passed over.
+#[derive(Drop)]
+pub struct Report<'a, R: Print> {
+    rt: &'a R,
+    tally: Tally,
+}
+
+impl<'a, R: Print> Report<'a, R> {
+    // Before the first line.
+    pub fn new(rt: &'a R) -> Self
+        ensures { result.tally ≡ record { passed = 0; failed = 0 } }
+    {
+        Report {
+            rt,
+            tally: Tally {
+                passed: 0,
+                failed: 0,
+            },
+        }
     }
-}
 
-pub fn done() -> Told
-    ensures { (result.kind ≡ 3) × ((result.value ≡ 0) × (result.read ≡ 0)) }
-{
-    Told {
-        kind: 3,
-        value: 0,
-        read: 0,
+    // A line on what a call came to.
+    pub fn call(&mut self, name: &str, expected: Told, came: Told)
+        ensures { self.new.tally ≡ tallied (are_alike expected came) self.old.tally }
+    {
+        let _ = print!(self.rt; "{name}: expected {expected}; came {came}");
+        self.judge(expected == came);
     }
-}
 
-pub fn told_of(answer: Answer) -> Told
-    ensures { Tells answer result }
-{
-    match answer {
-        Answer::Address {
-            value,
-            size: _,
-            read,
-        } => address(value, read),
-        Answer::PageFault {
-            cause: _,
-            level: _,
-            code,
-            read,
-        } => fault(code, read),
-        Answer::Refused { number } => refused(number),
-        Answer::Done => done(),
+    // A line on what a word of the guest's holds.
+    pub fn word(&mut self, name: &str, expected: u64, came: u64)
+        ensures { self.new.tally ≡ tallied (expected == came) self.old.tally }
+    {
+        let _ = print!(self.rt; "{name}: expected 0x{expected:x}; came 0x{came:x}");
+        self.judge(expected == came);
     }
-}
 
-fn are_alike(a: Told, b: Told) -> bool
-    ensures { result ≡ are_alike a b }
-{
-    (a.kind == b.kind) & (a.value == b.value) & (a.read == b.read)
-}
-
-// A write that fails is passed over.
-pub fn write<R: Print>(rt: &R, s: &[u8]) {
-    let _ = rt.write_all(s);
-}
-
-fn write_number<R: Print>(rt: &R, x: u64) {
-    let _ = print!(rt; "0x{x:x}");
-}
-
-pub fn write_decimal<R: Print>(rt: &R, x: u64) {
-    let _ = print!(rt; "{x}");
-}
-
-fn write_kind<R: Print>(rt: &R, kind: u64) {
-    if kind == 0 {
-        write(rt, b"address ");
-        return;
+    // The end of a line.
+    fn judge(&mut self, good: bool)
+        ensures { self.new.tally ≡ tallied good self.old.tally }
+    {
+        let _ = println!(self.rt; ": {}", if good { "passed" } else { "failed" });
+        self.tally.count(good);
     }
-    if kind == 1 {
-        write(rt, b"fault ");
-        return;
-    }
-    write(rt, b"refusal ");
-}
 
-fn write_told<R: Print>(rt: &R, o: Told) {
-    if o.kind == 3 {
-        write(rt, b"done");
-        return;
+    // The last line.
+    pub fn total(&self) {
+        let _ = println!(self.rt; "{}", self.tally);
     }
-    write_kind(rt, o.kind);
-    write_number(rt, o.value);
-    if o.kind == 2 {
-        return;
-    }
-    write(rt, b", ");
-    write_decimal(rt, o.read);
-    write(rt, b" read");
-}
-
-// The end of a line; the sums cannot wrap before 2^64 lines are written.
-fn judge<R: Print>(rt: &R, t: Tally, good: bool) -> Tally
-    ensures { result ≡ tallied good t }
-{
-    if good {
-        write(rt, b": passed\n");
-        return Tally {
-            passed: std::num::wrapping_add_u64(t.passed, 1),
-            failed: t.failed,
-        };
-    }
-    write(rt, b": failed\n");
-    Tally {
-        passed: t.passed,
-        failed: std::num::wrapping_add_u64(t.failed, 1),
-    }
-}
-
-// A line on what a call came to.
-pub fn call<R: Print>(rt: &R, t: Tally, name: &[u8], expected: Told, came: Told) -> Tally
-    ensures { result ≡ tallied (are_alike expected came) t }
-{
-    write(rt, name);
-    write(rt, b": expected ");
-    write_told(rt, expected);
-    write(rt, b"; came ");
-    write_told(rt, came);
-    judge(rt, t, are_alike(expected, came))
-}
-
-// A line on what a word of the guest's holds.
-pub fn word<R: Print>(rt: &R, t: Tally, name: &[u8], expected: u64, came: u64) -> Tally
-    ensures { result ≡ tallied (expected == came) t }
-{
-    write(rt, name);
-    write(rt, b": expected ");
-    write_number(rt, expected);
-    write(rt, b"; came ");
-    write_number(rt, came);
-    judge(rt, t, expected == came)
 }

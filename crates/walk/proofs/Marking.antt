@@ -10,9 +10,9 @@ use native.Mathlib.Decide.{dec_lt, ℕ_discrete}
 use lib.ListN.{length, get_or, set}
 use lib.Seq.{set-set, get_or-set_same}
 use lib.Bits.{bit_and, bit_or, and_zero_r, or_add_and}
-use borrow.Author.Tests.{lt-ltb, le-ltb}
+use borrow.Author.Tests.{lt-ltb}
 use Rattle.rules.specs.Bits.{is_on, with_bit, part, one}
-use Rattle.rules.specs.Memory.{Memory, both, high_base, entry_in, added_in, entry_at, added, Whole}
+use Rattle.rules.specs.Memory.{Memory, both, high_base, entry_in, entry_at, added, Whole}
 use Rattle.rules.specs.Entries.{Entry, absent, bad, page, table, sorted, says, is_page, next, also}
 use Rattle.rules.specs.Walk.{place, Leaf, End, reached, stuck, Reach, step, reach, accessed, dirtied}
 use Rattle.rules.specs.declared.Control.{Control}
@@ -21,14 +21,12 @@ use Rattle.rules.specs.declared.Cause.{Cause}
 use Rattle.rules.proofs.BoolLaws.{or_left}
 use Rattle.rules.proofs.BitLaws.{part_high, set_other, one_le, on_one}
 use Rattle.rules.proofs.FormatLaws.{is_common, says_by_size}
-use Rattle.rules.proofs.PartLaws.{added_outside}
 use Rattle.rules.proofs.MemoryLaws.{added_order}
 use Rattle.rules.proofs.Grown.{grown_added}
 use Rattle.rules.proofs.WalkLaws.{reach_step, end_level, end_low, last_table}
 use Rattle.words.proofs.Masks.{and_flag}
 use Rattle.walk.specs.Packed.{slid, bits_of, marked_in, MarksIn, marked_at, Marks, LeadsAlike, MarkedDown}
 use Rattle.walk.proofs.Masks.{cut}
-use Rattle.walk.proofs.Ways.{in_high}
 use Rattle.walk.proofs.Steps.{slid_index, slid_next, narrow}
 
 -- ---- a byte and its marks
@@ -53,13 +51,6 @@ module _ (part : List ℕ) (at bits e : ℕ) (reads : e ≡ entry_in part at) wh
   pub mark_inside : at < length part → MarksIn part (set part at (bit_or (get_or part at 0) bits)) at bits e
   mark_inside h = record { entry = reads; marked = set_marks h }
 
-  not_set : length part ≤ at → (dirty : Bool) → bits ≡ bits_of dirty → part ≡ marked_in dirty at part
-  not_set h false q = sym (added_outside 5 at part h)
-  not_set h true q = sym (ap (added_in 5 at) (added_outside 6 at part h) ∙ added_outside 5 at part h)
-
-  pub mark_outside : length part ≤ at → MarksIn part part at bits e
-  mark_outside h = record { entry = reads; marked = not_set h }
-
 -- ---- and of `mark`
 module _ (low high : List ℕ) (at bits e : ℕ) where
   pub mark_low : at < high_base → (low' : List ℕ) → MarksIn low low' at bits e → Marks (both low high) (both low' high) at bits e
@@ -68,13 +59,6 @@ module _ (low high : List ℕ) (at bits e : ℕ) where
       go : (dirty : Bool) → bits ≡ bits_of dirty → both low' high ≡ marked_at dirty at (both low high)
       go true q = rw (lt-ltb at high_base h) (ap (λ (l : List ℕ). both l high) (m.marked true q))
       go false q = rw (lt-ltb at high_base h) (ap (λ (l : List ℕ). both l high) (m.marked false q))
-
-  pub mark_high : high_base ≤ at → (high' : List ℕ) → MarksIn high high' (at - high_base) bits e → Marks (both low high) (both low high') at bits e
-  mark_high h high' m = record { entry = in_high low high at h e m.entry; marked = go }
-    where
-      go : (dirty : Bool) → bits ≡ bits_of dirty → both low high' ≡ marked_at dirty at (both low high)
-      go true q = rw (le-ltb at high_base h) (ap (both low) (m.marked true q))
-      go false q = rw (le-ltb at high_base h) (ap (both low) (m.marked false q))
 
 -- ---- where a walk that reaches a page has it: in the entry of this level, or beyond the next table
 abbrev at_of : End → ℕ
@@ -207,11 +191,6 @@ pub record Going (low₀ high₀ : List ℕ) (root a last bits : ℕ) (low high 
   pub below : base < 2 ^ 52
   pub eight : base % 8 ≡ 0
   pub rest : (mem' : Memory) → MarkedDown (both low high) mem' x level base last bits → MarkedDown (both low₀ high₀) mem' (slid 4 a) 4 root last bits
-
-pub going_none : (low high : List ℕ) (root a last bits : ℕ) → root < 2 ^ 52 → root % 8 ≡ 0 → Whole (both low high)
-    → Going low high root a last bits low high root (a * 2 ^ 16 % 2 ^ 64) 4
-going_none low high root a last bits h e w =
-    record { same_low = refl; same_high = refl; whole = w; below = h; eight = e; rest = λ mem' d. d }
 
 module _ (low₀ high₀ : List ℕ) (root a last bits : ℕ) (low high : List ℕ) (base x level : ℕ) (g : Going low₀ high₀ root a last bits low high base x level)
     (at e : ℕ) (low₁ high₁ : List ℕ) (stands : at ≡ base + 8 * (x / 2 ^ 55)) where

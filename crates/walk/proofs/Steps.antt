@@ -17,7 +17,6 @@ use Rattle.rules.specs.Walk.{index, place, leaf_of, reached, stuck, Reach, step,
 use Rattle.rules.specs.declared.Control.{Control}
 use Rattle.rules.specs.declared.Cause.TheVariants.{NotPresent, Reserved}
 use Rattle.rules.proofs.BoolLaws.{or_left, and_left, and_right}
-use Rattle.rules.proofs.BitLaws.{part_lt}
 use Rattle.rules.proofs.FormatLaws.{is_common, is_own, widest, own_bits, says_by_size, reserved_high}
 use Rattle.rules.proofs.WalkLaws.{reach_step}
 use Rattle.walk.specs.Packed.{turned, rights_of, accessed_in, bad_of, Bars, slid, pack_page, pack_end, pack_reach, all_accessed, is_reserved_page, Stops, EndsAt, Ended, Down}
@@ -191,9 +190,6 @@ module _ (t s level bars : ℕ) (pos : 0 < level) (high : level ≤ 4) (stops : 
         common_by : (c : Control) (e : ℕ) → Bars c bars → t ≡ turned e → is_on 0 e ≡ true → is_common c e ≡ true
         common_by c e f q p =
             not-false (is_common c e) (sym (rw p at (page_test t bars c e f q)) ∙ ne_eqb (bit_and t (bars - 0x80)) 0 barred)
-
-pub part_low : (level t n : ℕ) → level ≤ 4 → n ≡ part 52 (3 + 9 * level) t → n < 2 ^ 52
-part_low level t n h q = rw q (part_lt 52 (3 + 9 * level) t (omega arith))
 
 -- ---- the ways out of `down`
 module _ (mem : Memory) (x level base seen bars at e : ℕ) (pos : 0 < level) (high : level ≤ 4)

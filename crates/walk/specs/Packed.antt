@@ -91,12 +91,15 @@ pack_found (Fault cause level n) = pack_fault cause level
 abbrev pub level_in : ℕ → ℕ
 level_in n = n / 32 % 8
 
+abbrev pub cause_in : ℕ → Cause
+cause_in n = cond (eqb (n % 32) 0) NotPresent (cond (eqb (n % 32) 1) Reserved Protection)
+
 abbrev pub unpack_of : ℕ → Found
 unpack_of n =
     cond (leb 2048 n)
     (Page (n / 4096 * 4096) (level_in n) (record { writable = not (is_on 0 n); user = not (is_on 1 n); executable = not (is_on 2 n) }) (is_on 8 n) (not (is_on 3 n))
     (5 - level_in n))
-    (Fault (cond (eqb (n % 32) 0) NotPresent (cond (eqb (n % 32) 1) Reserved Protection)) (level_in n) (5 - level_in n))
+    (Fault (cause_in n) (level_in n) (5 - level_in n))
 
 -- ---- what the code does from a level on, in the rules' terms: for whatever control and address the numbers stand for
 -- an entry that is present, has no bit that every row has, and leads to no table: of its row what is left is looked at, which is the row at width 52 with NXE on

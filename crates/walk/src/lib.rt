@@ -6,14 +6,14 @@
 ghost use Rattle.std.specs.Prelude.{◌≡◌, not, ◌+◌, ◌*◌, ◌/◌, ◌%◌, ◌^◌, ◌≤◌, ◌<◌, length};
 ghost use Rattle.rules.specs.Bits.{is_on, part};
 ghost use Rattle.rules.specs.Memory.{both, entry_in, entry_at, Whole};
-ghost use Rattle.walk.specs.Packed.{Ready, MarksIn, Marks, slid, is_reserved_page, rights_of, accessed_in, pack_page, Stops, Ended, Down, MarkedDown, bars_of, Settled, level_in, pack_fault, unpack_of, Walks};
+ghost use Rattle.walk.specs.Packed.{Ready, MarksIn, Marks, slid, is_reserved_page, rights_of, accessed_in, pack_page, Stops, Ended, Down, MarkedDown, bars_of, Settled, level_in, pack_fault, cause_in, unpack_of, Walks};
 ghost use Rattle.rules.specs.declared.Cause.TheVariants.{Protection};
 ghost use Rattle.numbers.specs.Needs.{Known};
 
 use rules::{Cause, Control, Found, HIGH_BASE, Rights};
 
 // What an entry outside memory reads as.
-const OUTSIDE: u64 = 0xFFFF_FFFF_FFFF_FFFF;
+const OUTSIDE: u64 = u64::MAX;
 
 // P, RW, US, A and D: an entry is looked at with these turned over. Then each bit that is set, as XD always did, takes a right or a mark away, and what is
 // lacking after several entries is their `or`.
@@ -142,11 +142,9 @@ fn mark_down(low: &mut [u8], high: &mut [u8], root: u64, a: u64, last: u64, bits
 {
     let mut base = root;
     let mut x = a << 16;
-    let mut level = 4;
-    while last < level {
+    for _level in (last..4).rev() {
         base = next(mark(low, high, place(base, x), 32));
         x = x << 9;
-        level -= 1;
     }
     mark(low, high, place(base, x), bits);
 }
@@ -187,6 +185,17 @@ fn settle(low: &mut [u8], high: &mut [u8], root: u64, a: u64, n: u64, need: u64,
     n - lacks
 }
 
+// The cause of a fault, from its number.
+fn cause_of(n: u64) -> Cause
+    ensures { result ≡ cause_in n }
+{
+    match n % 32 {
+        0 => Cause::NotPresent,
+        1 => Cause::Reserved,
+        _ => Cause::Protection,
+    }
+}
+
 // A finding as its number says it.
 fn unpack(n: u64) -> Found
     requires { level_in n ≤ 5 }
@@ -208,22 +217,8 @@ fn unpack(n: u64) -> Found
             read,
         };
     }
-    if n % 32 == 0 {
-        return Found::Fault {
-            cause: Cause::NotPresent,
-            level,
-            read,
-        };
-    }
-    if n % 32 == 1 {
-        return Found::Fault {
-            cause: Cause::Reserved,
-            level,
-            read,
-        };
-    }
     Found::Fault {
-        cause: Cause::Protection,
+        cause: cause_of(n),
         level,
         read,
     }

@@ -1,21 +1,19 @@
--- What the code computes, in the rules' names: eight bytes added up are their word, eight stores put a word, an `or` over all bytes is 0 if each is, stores to
--- all bytes leave nothing else, and shifts and a remainder cut out a part.
+-- What the code computes, in the rules' names: the lowest byte of a word, eight stores put a word, an `or` over all bytes is 0 if each is, and shifts
+-- and a remainder cut out a part.
 use Prim.Native.Nat.{ℕ, zero, suc, ◌+◌, ◌-◌, ◌*◌, ◌/◌, ◌%◌, ◌^◌, ◌≤◌, ◌<◌}
 use mathlib.Core.Path.{◌≡◌, refl, ap, sym, ◌∙◌}
-use mathlib.Core.Bool.{and-true}
+use mathlib.Core.Bool.{◌&&◌, and-true, and_assoc}
 use mathlib.Core.List.{List, [], ◌∷◌, ◌++◌, append_assoc}
 use native.Mathlib.Omega.{arith}
-use native.Mathlib.Numerals.{add-one}
-use native.Mathlib.Nat.{mod-lt, one-mul, add-zero, add_assoc, div-div-eq-div-mul}
-use lib.ListN.{length, get_or, take, drop, set, replicate}
-use lib.Seq.{sets-eq, get_or-drop, drop-drop, take-suc, take-suc-set, take_all}
+use native.Mathlib.Nat.{mod-lt, one-mul, add-zero, div-div-eq-div-mul}
+use lib.ListN.{length, get_or, take, drop, set}
+use lib.Seq.{sets-eq, get_or-drop, drop-drop}
 use lib.Dec.{eqb}
 use lib.Pow.{field, pow_pos, shl_exact}
 use lib.Bits.{bit_or}
-use Rattle.rules.specs.Bits.{part, word, word_at, bytes_of, word_put}
+use Rattle.std.specs.List.{fold}
+use Rattle.rules.specs.Bits.{part, word, bytes_of, word_put}
 use Rattle.rules.specs.Refusals.{all_zero}
-use Rattle.rules.proofs.WordLaws.{zero_append}
-use Rattle.words.specs.Eight.{eight_at}
 use Rattle.words.proofs.Masks.{zero_or}
 
 -- ---- a word read
@@ -26,26 +24,6 @@ word_first n (x ∷ b) = refl
 
 pub word_next : (n at : ℕ) (b : List ℕ) → word (take (suc n) (drop at b)) ≡ get_or b at 0 + 256 * word (take n (drop (at + 1) b))
 word_next n at b = word_first n (drop at b) ∙ rw (get_or-drop at b 0, add-zero, drop-drop 1 at b)
-
-pub word_eight : (at : ℕ) (b : List ℕ) → eight_at b at ≡ word_at b at
-word_eight at b =
-    sym
-    (rw (
-      word_next 7 at b,
-      word_next 6 (at + 1) b,
-      add_assoc at 1 1,
-      word_next 5 (at + 2) b,
-      add_assoc at 2 1,
-      word_next 4 (at + 3) b,
-      add_assoc at 3 1,
-      word_next 3 (at + 4) b,
-      add_assoc at 4 1,
-      word_next 2 (at + 5) b,
-      add_assoc at 5 1,
-      word_next 1 (at + 6) b,
-      add_assoc at 6 1,
-      word_next 0 (at + 7) b,
-    ) (omega arith))
 
 -- ---- a word written
 bytes_eight : (x : ℕ) → bytes_of 8 x
@@ -71,24 +49,12 @@ put_eight s at x fits =
     ∙ append_assoc (take at s) _ (drop (at + 8) s) ∙ ap (λ (l : List ℕ). take at s ++ (l ++ drop (at + 8) s)) (sym (bytes_eight x)))
 
 -- ---- all bytes or-ed
-pub one_more : (s : List ℕ) (i a : ℕ) → i < length s → eqb a 0 ≡ all_zero (take i s) → eqb (bit_or a (get_or s i 0)) 0 ≡ all_zero (take (i + 1) s)
-one_more s i a h e = rw (add-one, take-suc s i 0 h, zero_append, and-true, zero_or, e)
+or_all : (s : List ℕ) (a : ℕ) → eqb (fold bit_or a s) 0 ≡ (eqb a 0 && all_zero s)
+or_all [] a = sym (and-true (eqb a 0))
+or_all (x ∷ s) a = or_all s (bit_or a x) ∙ rw (zero_or a x) (and_assoc (eqb a 0) (eqb x 0) (all_zero s))
 
-pub all_seen : (s : List ℕ) (i a : ℕ) → length s ≤ i → eqb a 0 ≡ all_zero (take i s) → eqb a 0 ≡ all_zero s
-all_seen s i a h e = e ∙ ap all_zero (take_all i s h)
-
--- ---- every byte zero
-zeros_next : (i : ℕ) → replicate {A = ℕ} (suc i) 0 ≡ replicate i 0 ++ (0 ∷ [])
-zeros_next zero = refl
-zeros_next (suc i) = ap (λ (l : List ℕ). 0 ∷ l) (zeros_next i)
-
-pub zero_more : (s : List ℕ) (i : ℕ) → i < length s → take i s ≡ replicate i 0 → take (i + 1) (set s i 0) ≡ replicate (i + 1) 0
-zero_more s i h e = rw (add-one, take-suc-set s i 0 h, e, zeros_next i)
-
-pub all_zeroed : (s s₀ : List ℕ) (i : ℕ) → length s ≡ length s₀ → length s ≤ i → i ≤ length s₀ → take i s ≡ replicate i 0 → s ≡ replicate (length s₀) 0
-all_zeroed s s₀ i l h g e =
-    let q : i ≡ length s₀ = omega arith in
-    sym (take_all i s h) ∙ e ∙ ap (λ (n : ℕ). replicate {A = ℕ} n 0) q
+pub all_or : (s : List ℕ) (n : ℕ) → n ≡ fold bit_or 0 s → eqb n 0 ≡ all_zero s
+all_or s n e = rw e (or_all s 0)
 
 -- ---- a part cut out by shifts
 pub one_shl : (k w : ℕ) → k < w → (1 * 2 ^ k) % 2 ^ w ≡ 2 ^ k

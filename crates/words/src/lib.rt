@@ -2,30 +2,23 @@
 #![tactic(auto)]
 
 ghost use Rattle.std.specs.Prelude.{◌≡◌, ◌+◌, ◌≤◌, ◌<◌, eqb, length, replicate};
-ghost use Rattle.rules.specs.Bits.{is_on, one as one_of, part as part_of, word_at, word_put};
+ghost use Rattle.rules.specs.Bits.{is_on, part as part_of, word_at, word_put};
 ghost use Rattle.rules.specs.Refusals.{all_zero};
 ghost use Rattle.words.specs.Eight.{eight_at};
-
-// A byte as a number.
-fn wide(x: u8) -> u64
-    ensures { (result ≡ x) × (result < 256) }
-{
-    x as u64
-}
 
 // Eight bytes, each at its own weight.
 fn read_eight(s: &[u8], at: usize) -> u64
     requires { at + 8 ≤ length s.now }
     ensures { result ≡ eight_at s.now at }
 {
-    wide(s[at])
-        + wide(s[at + 1]) * 0x100
-        + wide(s[at + 2]) * 0x1_0000
-        + wide(s[at + 3]) * 0x100_0000
-        + wide(s[at + 4]) * 0x1_0000_0000
-        + wide(s[at + 5]) * 0x100_0000_0000
-        + wide(s[at + 6]) * 0x1_0000_0000_0000
-        + wide(s[at + 7]) * 0x100_0000_0000_0000
+    u64::from(s[at])
+        + u64::from(s[at + 1]) * 0x100
+        + u64::from(s[at + 2]) * 0x1_0000
+        + u64::from(s[at + 3]) * 0x100_0000
+        + u64::from(s[at + 4]) * 0x1_0000_0000
+        + u64::from(s[at + 5]) * 0x100_0000_0000
+        + u64::from(s[at + 6]) * 0x1_0000_0000_0000
+        + u64::from(s[at + 7]) * 0x100_0000_0000_0000
 }
 
 // The word of 64 bits at a place.
@@ -55,31 +48,14 @@ pub fn write_word(s: &mut [u8], at: usize, x: u64)
 pub fn gather(s: &[u8]) -> u8
     ensures { eqb result 0 ≡ all_zero s.now }
 {
-    let mut acc: u8 = 0;
-    let mut i = 0;
-    while i < s.len() {
-        acc = acc | s[i];
-        i += 1;
-    }
-    acc
+    s.iter().fold(0, |all, byte| all | byte)
 }
 
 // Every byte is zero.
 pub fn clear(s: &mut [u8])
     ensures { s.new ≡ replicate (length s.old) 0 }
 {
-    let mut at = 0;
-    while at < s.len() {
-        s[at] = 0;
-        at += 1;
-    }
-}
-
-// A flag as a number.
-pub fn one(b: bool) -> u64
-    ensures { (result ≡ one_of b) × (result < 2) }
-{
-    if b { 1 } else { 0 }
+    s.fill(0);
 }
 
 // Whether bit k is set.

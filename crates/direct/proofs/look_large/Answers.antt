@@ -1,14 +1,11 @@
--- The first that holds the page answers, or all ways are gone through; or nothing is held.
+-- The first that holds the page is asked; or nothing is held.
 use Rattle.buffer.proofs.Looking.{held_is, held_large}
-use Rattle.direct.proofs.Serving.{held_right, first_serves, nothing_first}
+use Rattle.direct.proofs.Serving.{nothing_first}
 use borrow.Author.Rules.{rules}
 use Rattle.direct.proofs.look_large.Goals as goal
 
-pub serve-requires : goal.serve-requires
-serve-requires c = (search rules, (search rules, search held_right))
+pub answer_held-requires : goal.answer_held-requires
+answer_held-requires c = (search rules, search (held_is, held_large))
 
-pub returns-then-serve : goal.returns-then-serve
-returns-then-serve c = search (first_serves, held_large, held_is)
-
-pub returns-in-Nowhere : goal.returns-in-Nowhere
-returns-in-Nowhere c = search (nothing_first, held_large)
+pub returns-in-None : goal.returns-in-None
+returns-in-None c = search (nothing_first, held_large)

@@ -1,6 +1,6 @@
 use borrow.Author.Rules.{rules}
 use Rattle.drops.proofs.DropLaws.{image_dropped}
-use Rattle.drops.proofs.DropWays.{swept_none, swept_more, swept_all}
+use Rattle.drops.proofs.DropWays.{swept_none, swept_more}
 use Rattle.drops.proofs.drop_from.Goals as goal
 
 pub loop-i-init : goal.loop-i-init
@@ -11,6 +11,3 @@ drop_slot-requires c = (search image_dropped, search rules)
 
 pub loop-i-preserved : goal.loop-i-preserved
 loop-i-preserved c = record { low = search rules; high = search rules; size = search rules; done = search swept_more }
-
-pub returns : goal.returns
-returns c = search swept_all

@@ -1,9 +1,6 @@
 -- Ones, less those below.
-use Rattle.formats.proofs.Laws.{some_below, less, difference}
+use Rattle.formats.proofs.Laws.{less, difference}
 use Rattle.formats.proofs.range.Goals as goal
-
-pub overflow_sub-result-2 : goal.overflow_sub-result-2
-overflow_sub-result-2 c = search some_below
 
 pub overflow_sub-result-3 : goal.overflow_sub-result-3
 overflow_sub-result-3 c = search less

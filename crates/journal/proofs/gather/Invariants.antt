@@ -1,5 +1,4 @@
 -- The loop's invariant: what was or-ed so far is above the limit exactly if one of the counts or the repeats passed is.
-use Prim.Native.Nat.{◌≤◌, ◌-◌}
 use mathlib.Core.Path.{◌≡◌}
 use mathlib.Core.Bool.{◌||◌}
 use lib.Dec.{ltb}
@@ -8,7 +7,4 @@ use Rattle.journal.specs.Calls.{is_over}
 use Rattle.journal.proofs.gather.Given as goal
 
 abbrev pub invariant-loop-i : goal.invariant-loop-i
-invariant-loop-i l = (l.i ≤ l.held) × (ltb limit l.acc ≡ (ltb limit l.counts || is_over l.i (decode l.journal).records))
-
-abbrev pub decreases-loop-i : goal.decreases-loop-i
-decreases-loop-i l = l.held - l.i
+invariant-loop-i l = ltb limit l.acc ≡ (ltb limit l.counts || is_over l.i (decode l.journal).records)

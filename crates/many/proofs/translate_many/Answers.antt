@@ -9,21 +9,16 @@ returns-then-no_pairs c = search none_taken
 
 pub loop-i-init : goal.loop-i-init
 loop-i-init c =
-    done_none _ _ _ _ _ _ _ _ _ c.no_pairs.ensures c.if-no_pairs.false refl
-    (record { image = c.is_unfit-unfit.ensures; memory = c.no_lengths-misfit.ensures; paging = c.is_paged-paged.ensures })
+    done_none _ _ _ _ _ _ _ c.no_pairs.ensures c.if-no_pairs.false refl c.of-asked.ensures
     (λ j. omega (arith, c.slice_known-1.given j))
 
-pub pair-requires : goal.pair-requires
-pair-requires c = (search rules, c.loop-i.invariant.asked)
-
-pub overflow_add-i : goal.overflow_add-i
-overflow_add-i c =
-    omega (arith, c.loop-i-test.true, c.loop-i.invariant.few)
+pub translate_asked-requires : goal.translate_asked-requires
+translate_asked-requires c = (search rules, c.loop-i.invariant.asked)
 
 pub loop-i-preserved : goal.loop-i-preserved
 loop-i-preserved c =
-    done_more _ _ _ _ _ _ _ _ _ _ _ _ c.loop-i.invariant _ _ _ _ _ _ c.loop-i-test.true c.read_word-kind.ensures c.read_word-a.ensures
-    c.pair.ensures (search rules) (λ j. omega (arith, c.slice_known-in-loop-i-1.given j))
+    done_more _ _ _ _ _ _ _ _ _ _ c.loop-i.invariant _ _ _ _ _ _ c.loop-i-test.true c.read_word-kind.ensures c.read_word-a.ensures
+    c.translate_asked.ensures (search rules) (λ j. omega (arith, c.slice_known-in-loop-i-1.given j))
 
 pub returns : goal.returns
 returns c = search done_all

@@ -1,9 +1,9 @@
 -- Turned away, or called and recorded.
-use Rattle.pastrulow.proofs.Passing.{turned_away, answers}
+use Rattle.pastrulow.proofs.Passing.{passes, at_image}
+use borrow.Author.Rules.{rules}
 use Rattle.pastrulow.proofs.pastrulow_invlpg.Goals as goal
 
-pub returns-then-answer-ne-LENGTH : goal.returns-then-answer-ne-LENGTH
-returns-then-answer-ne-LENGTH c = search turned_away
-
 pub returns : goal.returns
-returns c = search answers
+returns c =
+    passes _ _ _ _ _ _ c.answered.ensures.turned_away
+    (λ e. let w = c.answered.ensures.written e in (w.0, (at_image _ _ _ _ _ _ w.1.shows w.1.leaves (search rules), w.2)))

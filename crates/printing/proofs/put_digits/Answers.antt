@@ -1,8 +1,5 @@
-use Rattle.printing.proofs.Backward.{written_none, written_more, written_all}
+use Rattle.printing.proofs.Backward.{written_more, written_all}
 use Rattle.printing.proofs.put_digits.Goals as goal
-
-pub loop-i-init : goal.loop-i-init
-loop-i-init c = search written_none
 
 pub loop-i-preserved : goal.loop-i-preserved
 loop-i-preserved c = search written_more

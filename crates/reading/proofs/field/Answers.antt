@@ -1,17 +1,18 @@
-use Rattle.reading.proofs.Scan.{read_none, read_more, read_bad, read_tab, read_end}
+use Rattle.std.proofs.Common.{arith}
+use Rattle.reading.proofs.Scan.{read_more, read_bad, read_tab, read_end}
 use Rattle.reading.proofs.field.Goals as goal
-
-pub loop-i-init : goal.loop-i-init
-loop-i-init c = search read_none
-
-pub returns-then-b-ne-TAB : goal.returns-then-b-ne-TAB
-returns-then-b-ne-TAB c = search read_bad
-
-pub returns-then-d-ge16 : goal.returns-then-d-ge16
-returns-then-d-ge16 c = search read_tab
+use Rattle.reading.proofs.field.Goals.{else-loop-i-test, then-loop-i-test+in_default, else-i-line-via-then-i-line+else-line-i-ne-TAB, else-i-line-via-else-i-line}
 
 pub loop-i-preserved : goal.loop-i-preserved
 loop-i-preserved c = search read_more
 
+pub returns-then-line-i-ne-TAB : goal.returns-then-line-i-ne-TAB
+returns-then-line-i-ne-TAB c =
+    elim c.loop-i-test.branch [ else-loop-i-test w ↦ absurd (omega arith) | then-loop-i-test+in_default w ↦ search read_bad ]
+
 pub returns : goal.returns
-returns c = search read_end
+returns c =
+    elim c.else-i-line.branch [
+      | else-i-line-via-then-i-line+else-line-i-ne-TAB w ↦ search read_tab
+      | else-i-line-via-else-i-line w ↦ search read_end
+    ]

@@ -1,14 +1,10 @@
-use Rattle.reading.proofs.Ending.{seeks_none, seeks_more, seeks_feed, seeks_end}
+-- Found in what is left of the text, or past its end, where nothing is left.
+use Rattle.std.proofs.Common.{arith}
+use Rattle.reading.proofs.Ending.{feed_found, no_rest}
 use Rattle.reading.proofs.line_end.Goals as goal
 
-pub loop-i-init : goal.loop-i-init
-loop-i-init c = search seeks_none
+pub returns-in-Some : goal.returns-in-Some
+returns-in-Some c = feed_found _ _ _ _ _ c.in-Some.ensures.lookup.0.2 c.before_feed.ensures c.unwrap_or.ensures
 
-pub returns-then-text-i-eq-FEED : goal.returns-then-text-i-eq-FEED
-returns-then-text-i-eq-FEED c = search seeks_feed
-
-pub loop-i-preserved : goal.loop-i-preserved
-loop-i-preserved c = search seeks_more
-
-pub returns : goal.returns
-returns c = search seeks_end
+pub returns-in-None : goal.returns-in-None
+returns-in-None c = no_rest _ _ (omega (arith, c.in-None.ensures))

@@ -1,15 +1,11 @@
--- A way for each test, and one where none applies; an image that is not refused has its length.
-use Rattle.refusals.proofs.Checks.{at_first, at_second, at_neither, fit_long}
+-- The first, or the second of a fit image.
+use Rattle.refusals.proofs.Checks.{at_first, at_second}
 use Rattle.refusals.proofs.invpcid_refusal.Goals as goal
 
-pub returns-then-is_unfit : goal.returns-then-is_unfit
-returns-then-is_unfit c = search at_first
-
-pub no_invpcid-requires : goal.no_invpcid-requires
-no_invpcid-requires c = search fit_long
-
-pub returns-then-no_invpcid : goal.returns-then-no_invpcid
-returns-then-no_invpcid c = search at_second
+pub returns-in_err-image : goal.returns-in_err-image
+returns-in_err-image c = at_first _ _ _ _ c.from_residual.ensures.1 c.in_err-image.ensures.refused
 
 pub returns : goal.returns
-returns c = search at_neither
+returns c =
+    let same = c.in_ok-image.ensures.same in
+    at_second _ _ _ _ _ c.in_ok-image.ensures.refused c.refuse_if.ensures (rw same at c.no_invpcid.ensures)

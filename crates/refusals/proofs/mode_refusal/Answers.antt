@@ -1,18 +1,12 @@
--- A way for each test, and one where none applies; an image that is not refused has its length.
-use Rattle.refusals.proofs.Checks.{at_first, flags_in, cr3_in, mode_refused, mode_taken}
+-- The first, or the second of a fit image.
+use Rattle.refusals.proofs.Checks.{at_first, at_second, judged}
 use Rattle.refusals.proofs.mode_refusal.Goals as goal
 
-pub returns-then-is_unfit : goal.returns-then-is_unfit
-returns-then-is_unfit c = search at_first
-
-pub read_word-flags-requires : goal.read_word-flags-requires
-read_word-flags-requires c = search flags_in
-
-pub read_word-cr3-requires : goal.read_word-cr3-requires
-read_word-cr3-requires c = search cr3_in
-
-pub returns-then-no_mode : goal.returns-then-no_mode
-returns-then-no_mode c = search mode_refused
+pub returns-in_err-image : goal.returns-in_err-image
+returns-in_err-image c = at_first _ _ _ _ c.from_residual.ensures.1 c.in_err-image.ensures.refused
 
 pub returns : goal.returns
-returns c = search mode_taken
+returns c =
+    let same = c.in_ok-image.ensures.same in
+    at_second _ _ _ _ _ c.in_ok-image.ensures.refused c.refuse_if.ensures
+    (judged c.args.image.now _ _ c.args.value _ (rw same at c.read_word-flags.ensures) (rw same at c.read_word-cr3.ensures) c.no_mode.ensures)

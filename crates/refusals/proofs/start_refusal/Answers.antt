@@ -1,15 +1,9 @@
--- A way for each test, and one where none applies.
-use Rattle.refusals.proofs.Checks.{long_enough, start_outside, start_moded, start_fits}
+-- The second, where the first does not apply. It is judged from flags 0 and CR3 0.
+use mathlib.Core.Path.{refl}
+use Rattle.rules.specs.Image.{started}
+use Rattle.refusals.proofs.Checks.{at_second}
 use Rattle.refusals.proofs.start_refusal.Goals as goal
 
-pub returns-then-image-ne2048 : goal.returns-then-image-ne2048
-returns-then-image-ne2048 c = search long_enough
-
-pub returns-then-is_outside : goal.returns-then-is_outside
-returns-then-is_outside c = search start_outside
-
-pub returns-then-no_mode : goal.returns-then-no_mode
-returns-then-no_mode c = search start_moded
-
 pub returns : goal.returns
-returns c = search start_fits
+returns c =
+    at_second _ _ _ _ _ (rw c.is_outside.ensures at c.in_ok-refuse_if.ensures) c.refuse_if-2.ensures (c.no_mode.ensures (started c.args.width 0) refl refl)

@@ -1,8 +1,5 @@
-use Rattle.walk.proofs.Marking.{going_none, going_more, going_all}
+use Rattle.walk.proofs.Marking.{going_more, going_all}
 use Rattle.walk.proofs.mark_down.Goals as goal
-
-pub loop-level-init : goal.loop-level-init
-loop-level-init c = search going_none
 
 pub loop-level-preserved : goal.loop-level-preserved
 loop-level-preserved c = search going_more

@@ -1,7 +1,5 @@
 -- Its four ways: a bit that must be clear is not; nothing is lacking, a right is, marks alone are.
-use lib.Bits.{and_le_l}
 use Rattle.walk.proofs.Settling.{way_kept_off, way_done, way_refused, way_marked}
-use borrow.Author.Rules.{rules}
 use Rattle.walk.proofs.settle.Goals as goal
 
 pub returns-then-n-clear-ne0 : goal.returns-then-n-clear-ne0
@@ -12,9 +10,6 @@ returns-then-lacks-eq0 c = search way_done
 
 pub returns-then-lacks-ne0 : goal.returns-then-lacks-ne0
 returns-then-lacks-ne0 c = search way_refused
-
-pub overflow_sub-result : goal.overflow_sub-result
-overflow_sub-result c = search (and_le_l, rules)
 
 pub returns : goal.returns
 returns c = search way_marked

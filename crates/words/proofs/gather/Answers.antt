@@ -1,13 +1,7 @@
-use mathlib.Core.Path.{refl}
+-- A fold by `or` is 0 if each byte is.
 use borrow.Author.Rules.{rules}
-use Rattle.words.proofs.Laws.{one_more, all_seen}
+use Rattle.words.proofs.Laws.{all_or}
 use Rattle.words.proofs.gather.Goals as goal
 
-pub loop-i-init : goal.loop-i-init
-loop-i-init c = (search rules, refl)
-
-pub loop-i-preserved : goal.loop-i-preserved
-loop-i-preserved c = (search rules, search one_more)
-
 pub returns : goal.returns
-returns c = search all_seen
+returns c = all_or c.args.s.now c.fold.result (search rules)

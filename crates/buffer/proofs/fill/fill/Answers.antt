@@ -1,10 +1,7 @@
--- The two ways through it; with word 3 written the bytes are again an image's, over which the victim's slot is stored.
-use Rattle.buffer.proofs.Fills.{into_free, image_moved, over_victim}
+-- With word 3 written the bytes are again an image's, over which the victim's slot is stored.
+use Rattle.buffer.proofs.Fills.{image_moved, over_victim}
 use borrow.Author.Rules.{rules}
 use Rattle.buffer.proofs.fill.fill.Goals as goal
-
-pub returns-then-free-lt4 : goal.returns-then-free-lt4
-returns-then-free-lt4 c = search into_free
 
 pub store_way-requires-2 : goal.store_way-requires-2
 store_way-requires-2 c = (search image_moved, search rules)

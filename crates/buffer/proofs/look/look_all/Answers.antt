@@ -1,8 +1,5 @@
-use Rattle.buffer.proofs.Looking.{left_all, way_size, look_found, look_next, look_end}
+use Rattle.buffer.proofs.Looking.{way_size, look_found, look_next}
 use Rattle.buffer.proofs.look.look_all.Goals as goal
-
-pub loop-k-init : goal.loop-k-init
-loop-k-init c = search left_all
 
 pub page_number-number-requires : goal.page_number-number-requires
 page_number-number-requires c = search way_size
@@ -15,6 +12,3 @@ returns-then-holds_page-is_of c = search look_found
 
 pub loop-k-preserved : goal.loop-k-preserved
 loop-k-preserved c = search look_next
-
-pub returns : goal.returns
-returns c = search look_end

@@ -1,26 +1,32 @@
--- Refused, or accepted: then the bytes are an image's (`i`), and the drop is the one that the rules name, or none.
+-- Refused, or accepted: then the bytes are an image's (`i`), lent as they are (`e`), and the drop is the one that the rules name, or none.
+use mathlib.Core.Path.{refl}
+use native.Mathlib.Omega.{arith}
+use borrow.Author.Rules.{rules}
 use Rattle.rules.specs.Memory.{empty}
 use Rattle.rules.specs.Refusals.{invlpg}
-use native.Mathlib.Omega.{arith}
-use Rattle.translator.proofs.Calling.{refuses, call_long, call_image, invlpg_drops, invlpg_nothing}
-use borrow.Author.Rules.{rules}
+use Rattle.translator.proofs.Calling.{refuses, call_image, lent_whole, invlpg_drops, invlpg_nothing}
 use Rattle.translator.proofs.calls.invlpg.Goals as goal
 
-pub returns-then-number-ne0 : goal.returns-then-number-ne0
-returns-then-number-ne0 c = search refuses
-
-pub pcid_of-pcid-requires : goal.pcid_of-pcid-requires
-pcid_of-pcid-requires c = search call_long
+pub returns-in-Err : goal.returns-in-Err
+returns-in-Err c = refuses _ _ _ _ (λ mem. refl) c.in-Err.ensures c.from.ensures
 
 pub drop_matches-requires : goal.drop_matches-requires
 drop_matches-requires c =
-    let i = call_image (invlpg c.args.a) c.args.image.now empty c.invlpg_refusal-number.result tt (λ j. omega (arith, c.slice_known-1.given j)) c.invlpg_refusal-number.ensures c.if-number-ne0.false in
-    (i, search rules)
+    let i = call_image (invlpg c.args.a) c.args.image.now empty tt (λ j. omega (arith, c.slice_known-1.given j)) c.in_default.ensures in
+    let e = lent_whole _ _ _ c.as_mut_array.ensures.cases c.unwrap-image.ensures in
+    (rw e i, search rules)
 
 pub returns-then-is_canonical : goal.returns-then-is_canonical
-returns-then-is_canonical c = search invlpg_drops
+returns-then-is_canonical c =
+    let h = c.in_default.ensures in
+    let e = lent_whole _ _ _ c.as_mut_array.ensures.cases c.unwrap-image.ensures in
+    let p = rw e at c.pcid_of-pcid.ensures.current in
+    let d = rw e at c.drop_matches.ensures in
+    search (invlpg_drops, h, p, d)
 
-pub returns : goal.returns
-returns c =
-    let i = call_image (invlpg c.args.a) c.args.image.now empty c.invlpg_refusal-number.result tt (λ j. omega (arith, c.slice_known-1.given j)) c.invlpg_refusal-number.ensures c.if-number-ne0.false in
-    search (invlpg_nothing, i)
+pub returns-else-is_canonical : goal.returns-else-is_canonical
+returns-else-is_canonical c =
+    let h = c.in_default.ensures in
+    let i = call_image (invlpg c.args.a) c.args.image.now empty tt (λ j. omega (arith, c.slice_known-1.given j)) c.in_default.ensures in
+    let e = lent_whole _ _ _ c.as_mut_array.ensures.cases c.unwrap-image.ensures in
+    rw e (invlpg_nothing _ _ _ h c.is_canonical.ensures c.if-is_canonical.false i)

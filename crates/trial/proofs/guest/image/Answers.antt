@@ -1,5 +1,5 @@
 -- Three calls.
-use Rattle.trial.proofs.Counting.{readied}
+use Rattle.trial.proofs.Beginning.{readied}
 use Rattle.trial.proofs.guest.image.Goals as goal
 
 pub returns : goal.returns

@@ -1,5 +1,5 @@
 -- Ten words.
-use Rattle.trial.proofs.Counting.{ten_words}
+use Rattle.trial.proofs.Beginning.{ten_words}
 use Rattle.trial.proofs.guest.memory.Goals as goal
 
 pub returns : goal.returns
