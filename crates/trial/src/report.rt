@@ -4,6 +4,7 @@ ghost use Rattle.trial.specs.Trial.{Tells, are_alike, tallied};
 
 use rules::Answer;
 use std::fmt;
+use std::fmt::{InlineText, Write};
 
 // An answer as the paper's record has it, without the page size.
 #[derive(Clone, Copy, Debug, PartialEq, Eq)]
@@ -43,12 +44,23 @@ impl From<Answer> for Told {
     }
 }
 
+// A number in hex, in one part of a text.
+#[derive(Clone, Copy)]
+struct Hex(u64);
+
+impl fmt::Display for Hex {
+    fn fmt<W: fmt::Write>(&self, f: &mut fmt::Formatter<W>) -> fmt::Result {
+        let x = self.0;
+        f.write_str(InlineText::<18>::of(format_args!("0x{x:x}")).as_str())
+    }
+}
+
 impl fmt::Display for Told {
     fn fmt<W: fmt::Write>(&self, f: &mut fmt::Formatter<W>) -> fmt::Result {
         match *self {
-            Told::Address { value, read } => write!(f, "address 0x{value:x}, {read} read"),
-            Told::Fault { code, read } => write!(f, "fault 0x{code:x}, {read} read"),
-            Told::Refused { number } => write!(f, "refusal 0x{number:x}"),
+            Told::Address { value, read } => write!(f, "address {}, {read} read", Hex(value)),
+            Told::Fault { code, read } => write!(f, "fault {}, {read} read", Hex(code)),
+            Told::Refused { number } => write!(f, "refusal {}", Hex(number)),
             Told::Done => write!(f, "done"),
         }
     }
@@ -74,13 +86,20 @@ impl Tally {
     }
 }
 
-impl fmt::Display for Tally {
-    fn fmt<W: fmt::Write>(&self, f: &mut fmt::Formatter<W>) -> fmt::Result {
-        write!(f, "{} passed, {} failed", self.passed, self.failed)
+// Each part of a text goes out in a write of its own; one that fails is passed over.
+#[derive(Drop)]
+struct Parts<'a, R: Print> {
+    rt: &'a R,
+}
+
+impl<'a, R: Print> Write for Parts<'a, R> {
+    fn write_str(&mut self, s: &str) -> fmt::Result {
+        let _ = self.rt.write_all(s.as_bytes());
+        Ok(())
     }
 }
 
-// Where the lines go, and their tally. A write that fails is passed over.
+// Where the lines go, and their tally.
 #[derive(Drop)]
 pub struct Report<'a, R: Print> {
     rt: &'a R,
@@ -101,11 +120,16 @@ impl<'a, R: Print> Report<'a, R> {
         }
     }
 
+    // What a line is written into.
+    fn parts(&self) -> Parts<'a, R> {
+        Parts { rt: self.rt }
+    }
+
     // A line on what a call came to.
     pub fn call(&mut self, name: &str, expected: Told, came: Told)
         ensures { self.new.tally ≡ tallied (are_alike expected came) self.old.tally }
     {
-        let _ = print!(self.rt; "{name}: expected {expected}; came {came}");
+        let _ = write!(self.parts(), "{name}: expected {expected}; came {came}");
         self.judge(expected == came);
     }
 
@@ -113,7 +137,12 @@ impl<'a, R: Print> Report<'a, R> {
     pub fn word(&mut self, name: &str, expected: u64, came: u64)
         ensures { self.new.tally ≡ tallied (expected == came) self.old.tally }
     {
-        let _ = print!(self.rt; "{name}: expected 0x{expected:x}; came 0x{came:x}");
+        let _ = write!(
+            self.parts(),
+            "{name}: expected {}; came {}",
+            Hex(expected),
+            Hex(came)
+        );
         self.judge(expected == came);
     }
 
@@ -121,12 +150,19 @@ impl<'a, R: Print> Report<'a, R> {
     fn judge(&mut self, good: bool)
         ensures { self.new.tally ≡ tallied good self.old.tally }
     {
-        let _ = println!(self.rt; ": {}", if good { "passed" } else { "failed" });
+        let end = if good { ": passed\n" } else { ": failed\n" };
+        let _ = self.parts().write_str(end);
         self.tally.count(good);
     }
 
     // The last line.
     pub fn total(&self) {
-        let _ = println!(self.rt; "{}", self.tally);
+        let tally = self.tally;
+        let _ = write!(
+            self.parts(),
+            "{} passed, {} failed\n",
+            tally.passed,
+            tally.failed
+        );
     }
 }
