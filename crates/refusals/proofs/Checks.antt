@@ -9,7 +9,7 @@ use lib.Seq.{take_all}
 use lib.Dec.{eqb, leb, ltb}
 use borrow.Author.Tests.{eq-eqb, ne_eqb, le-ltb}
 use Rattle.rules.specs.Bits.{words_of, is_on, part, word_at}
-use Rattle.rules.specs.Image.{Image, decode, control, pg}
+use Rattle.rules.specs.Image.{Image, decode, control, pg, pcide}
 use Rattle.rules.specs.Memory.{Memory}
 use Rattle.rules.specs.Refusals.{translate, canonical, is_long, is_outside, all_zero, no_flags, is_unfit, no_address, no_cr3, no_mode, no_invpcid, refusal}
 use Rattle.rules.specs.declared.Control.{Control}
@@ -70,12 +70,16 @@ no_mode_is s f r v n p q g o hf hr hn hp hq hg ho =
     rw (← hf, ← hr, ← hp, ← hq, ← hg, ← ho, e)
 
 -- INVPCID: a PCID that there is; then only the first two types ask more
-module _ (b : List ℕ) (t k a f : ℕ) (p : Bool) (h : k ≤ 4095) (hf : f ≡ word_at b 8) (hp : p ≡ is_on 3 f) where
-  pub by_address_and_pcid : t ≡ 0 → (q : Bool) → ((c : Control) → q ≡ canonical c a) → (not q || (not p && not (eqb k 0))) ≡ no_invpcid (decode b) t k a
-  by_address_and_pcid z q hq = rw (z, le-ltb 4095 k h, flags_at b, ← hf, ← hp, ← hq (control (decode b)))
+pub strayed : (b : List ℕ) (k f : ℕ) (p : Bool) → f ≡ word_at b 8 → p ≡ is_on 3 f
+    → (not p && not (eqb k 0)) ≡ (not (pcide (decode b).flags) && not (eqb k 0))
+strayed b k f p hf hp = rw (flags_at b, ← hf, ← hp)
 
-  pub by_pcid : t ≡ 1 → (not p && not (eqb k 0)) ≡ no_invpcid (decode b) t k a
-  by_pcid z = rw (z, le-ltb 4095 k h, flags_at b, ← hf, ← hp)
+module _ (b : List ℕ) (t k a : ℕ) (s : Bool) (h : k ≤ 4095) (hs : s ≡ (not (pcide (decode b).flags) && not (eqb k 0))) where
+  pub by_address_and_pcid : t ≡ 0 → (q : Bool) → ((c : Control) → q ≡ canonical c a) → (not q || s) ≡ no_invpcid (decode b) t k a
+  by_address_and_pcid z q hq = rw (z, le-ltb 4095 k h, hs, ← hq (control (decode b)))
+
+  pub by_pcid : t ≡ 1 → s ≡ no_invpcid (decode b) t k a
+  by_pcid z = rw (z, le-ltb 4095 k h, hs)
 
 pub width_low : (b : List ℕ) (w : ℕ) → (decode b).width ≤ 52 → w ≡ word_at b 0 → w ≤ 63
 width_low b w h e = omega (arith, width_at b)

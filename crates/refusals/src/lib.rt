@@ -1,8 +1,8 @@
 // Which calls are refused, and why: the lowest refusal that applies to a call, or none.
 #![tactic(auto)]
 
-ghost use Rattle.std.specs.Prelude.{◌≡◌, ℕ, ◌≤◌, cond, IfOk};
-ghost use Rattle.rules.specs.Image.{Image, decode};
+ghost use Rattle.std.specs.Prelude.{◌≡◌, ℕ, ◌≤◌, not, ◌&&◌, eqb, cond, IfOk};
+ghost use Rattle.rules.specs.Image.{Image, decode, pcide};
 ghost use Rattle.rules.specs.Memory.{both, empty, no_lengths};
 ghost use Rattle.rules.specs.Refusals.{start_with, invlpg, invpcid, write_cr3, write_mode, canonical, is_outside, no_flags, is_unfit, no_cr3, no_mode, no_invpcid, refusal};
 ghost use Rattle.rules.specs.declared.Control.{Control};
@@ -67,6 +67,13 @@ fn no_mode(flags: u64, cr3: u64, value: u64) -> bool
     no_flags(value) | (wanted & !words::is_on(0, value)) | (wanted & !pcide & (named != 0))
 }
 
+// A PCID other than 0 while PCIDs are off.
+fn strays(image: &[u8; 2048], pcid: u64) -> bool
+    ensures { result ≡ (not (pcide (decode image.now).flags) && not (eqb pcid 0)) }
+{
+    !words::is_on(3, words::read_word(image, 8)) & (pcid != 0)
+}
+
 // Only the first two types ask whether PCIDs are on, and only the first asks for the address.
 fn no_invpcid(image: &[u8; 2048], kind: u64, pcid: u64, a: u64) -> bool
     ensures { result ≡ no_invpcid (decode image.now) kind pcid a }
@@ -74,11 +81,9 @@ fn no_invpcid(image: &[u8; 2048], kind: u64, pcid: u64, a: u64) -> bool
     if 4095 < pcid {
         return true;
     }
-    let pcide = words::is_on(3, words::read_word(image, 8));
-    let strays = !pcide & (pcid != 0);
     match kind {
-        0 => !is_canonical(a) | strays,
-        1 => strays,
+        0 => !is_canonical(a) | strays(image, pcid),
+        1 => strays(image, pcid),
         2 | 3 => false,
         _ => true,
     }

@@ -1,4 +1,4 @@
--- The flags are the word that was read.
+-- What the first two types ask.
 use Rattle.refusals.proofs.Checks.{by_address_and_pcid, by_pcid}
 use Rattle.refusals.proofs.no_invpcid.Goals as goal
 
