@@ -13,10 +13,10 @@ use Rattle.records.specs.Record.{Recorded}
 use Rattle.translator.specs.Contract.{Leaves}
 use Rattle.pastrulow.specs.Door.{Passes}
 
-turned_away : (q : Request) (r b : List ℕ) → (length r ≡ 32 → ⊥) → Passes q r r b b 1
+pub turned_away : (q : Request) (r b : List ℕ) → (length r ≡ 32 → ⊥) → Passes q r r b b 1
 turned_away q r b wrong = record { left = λ mem. sym (door_refused r b mem q wrong) }
 
-answers : (q : Request) (r r' b b' : List ℕ) (a : Answer) (n : ℕ) → length r ≡ 32 → Recorded a r' n → Leaves q b b' a → Passes q r r' b b' n
+pub answers : (q : Request) (r r' b b' : List ℕ) (a : Answer) (n : ℕ) → length r ≡ 32 → Recorded a r' n → Leaves q b b' a → Passes q r r' b b' n
 answers q r r' b b' a n right done h =
     record {
       left = λ mem.
