@@ -157,12 +157,11 @@ impl<'a, R: Print> Report<'a, R> {
 
     // The last line.
     pub fn total(&self) {
-        let tally = self.tally;
         let _ = write!(
             self.parts(),
             "{} passed, {} failed\n",
-            tally.passed,
-            tally.failed
+            self.tally.passed,
+            self.tally.failed
         );
     }
 }
