@@ -43,7 +43,8 @@ fn first_refusal(unfit: bool, kind: u64) -> Refusal
     Refusal::Memory
 }
 
-// The address's own refusal.
+// The address's own refusal. In line by a hint: then each pair of a call for many is tested for its kind first, and for nothing that is known of all.
+#[inline(always)]
 fn address_refusal(paged: bool, a: u64) -> Result<(), Refusal>
     ensures { (b : List ℕ) → paged ≡ pg (decode b).flags → told result ≡ cond (no_address (decode b) a) 5 0 }
 {
